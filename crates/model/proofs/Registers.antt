@@ -1,0 +1,150 @@
+-- The register map: each register is met by exactly its offset, and the words of bits are the sources'.
+-- Assumes nothing.
+use mathlib.Core.Path.{_≡_, _∙_, refl, sym, ap, ap₂, subst}
+use mathlib.Core.Bool.{Bool, true, false, cond, _&&_, So, and-false}
+use mathlib.Core.Logic.{_⊎_, inl, inr, ⊎-elim, _≢_, _↔_}
+use Prim.Native.Nat.{ℕ, zero, suc, _+_, _-_, _*_, _/_, _%_, _^_, _≤_, _<_}
+use native.Mathlib.Nat.{div-add-mod', mod-lt}
+use native.Mathlib.Omega.{arith}
+use lib.Dec.{leb, ltb, eqb}
+use lib.ListN.{length, getD, set}
+use lib.Seq.{getD-set-same}
+use borrow.Author.Tests.{leb-true, ltb-true, ltb-false, lt-ltb, le-ltb, eqb-true, eqb-false, eq-eqb, ne-eqb}
+use Rattle.laws.specs.Bits.{bit, packed}
+use Rattle.laws.proofs.Truth.{dichotomy, not-so, and-intro, and-left, and-right, cond-so, cond-not}
+use Rattle.laws.proofs.Bits.{bit-packed}
+use Rattle.model.specs.declared.Shape.{Shape}
+use Rattle.model.specs.declared.State.{State}
+use Rattle.model.specs.declared.Register.{Register}
+use Rattle.model.specs.declared.Register.the-variants.{Priority, Pending, Enable, Threshold, Claim, Nothing}
+use Rattle.model.specs.Board.{request, isSource, isContext, isWord, priority, threshold, enableWord, enabled, withSettings}
+use Rattle.model.specs.Waits.{isPending}
+use Rattle.model.specs.Registers.{StandsAt, priorityAt, pendingAt, enableAt, pageAt, decode, pendingWord, kept, readOf, afterWrite, withPriority, withEnable, withThreshold}
+use Rattle.model.specs.Sound.{WithinLimits, Typed}
+use Rattle.model.proofs.Claim.{source-range}
+
+pub context-range : (h : Shape) (c : ℕ) → So (isContext h c) → c < h .contexts
+unfolding isContext
+context-range h c t = ltb-true c (h .contexts) t
+
+pub word-range : (h : Shape) (w : ℕ) → So (isWord h w) → w ≤ h .sources / 32
+unfolding isWord
+word-range h w t = leb-true w (h .sources / 32) t
+
+-- the four regions of the map
+module _ (h : Shape) (off : ℕ) where
+  in-priorities : off < 0x1000 → decode h off ≡ priorityAt h (off / 4)
+  unfolding decode
+  in-priorities a = cond-so _ _ (lt-ltb off 0x1000 a)
+
+  in-pending : 0x1000 ≤ off → off < 0x2000 → decode h off ≡ pendingAt h ((off - 0x1000) / 4)
+  unfolding decode
+  in-pending a b = cond-not _ _ (le-ltb off 0x1000 a) ∙ cond-so _ _ (lt-ltb off 0x2000 b)
+
+  in-enables : 0x2000 ≤ off → off < 0x200000 → decode h off ≡ enableAt h ((off - 0x2000) / 0x80) ((off - 0x2000) % 0x80 / 4)
+  unfolding decode
+  in-enables a b =
+      cond-not _ _ (le-ltb off 0x1000 (omega arith)) ∙ cond-not _ _ (le-ltb off 0x2000 a) ∙ cond-so _ _ (lt-ltb off 0x200000 b)
+
+  in-pages : 0x200000 ≤ off → decode h off ≡ pageAt h ((off - 0x200000) / 0x1000) ((off - 0x200000) % 0x1000)
+  unfolding decode
+  in-pages a =
+      cond-not _ _ (le-ltb off 0x1000 (omega arith)) ∙ cond-not _ _ (le-ltb off 0x2000 (omega arith))
+      ∙ cond-not _ _ (le-ltb off 0x200000 a)
+
+  -- where a register stands, the offset decodes to it
+  stands-decodes : WithinLimits (h .sources) (h .contexts) (h .bits) → (r : Register) → StandsAt h off r → decode h off ≡ r
+  unfolding priorityAt pendingAt enableAt pageAt
+  stands-decodes l (Priority s) p =
+      let range = source-range h s (p .0) in
+      let place : off / 4 ≡ s = omega (arith, p .1) in
+      in-priorities (omega (arith, p .1, range .1, l .sources .1)) ∙ ap (priorityAt h) place ∙ cond-so _ _ (p .0)
+  stands-decodes l (Pending w) p =
+      let range = word-range h w (p .0) in
+      let place : (off - 0x1000) / 4 ≡ w = omega (arith, p .1) in
+      in-pending (omega (arith, p .1)) (omega (arith, p .1, range, l .sources .1)) ∙ ap (pendingAt h) place ∙ cond-so _ _ (p .0)
+  stands-decodes l (Enable c w) p =
+      let words = word-range h w (p .1) in
+      let contexts = context-range h c (p .0) in
+      let most : w ≤ 3 = omega (arith, words, l .sources .1) in
+      let place : off - 0x2000 ≡ 0x80 * c + 4 * w = omega (arith, p .2) in
+      let context : (off - 0x2000) / 0x80 ≡ c = omega (arith, place) in
+      let word : (off - 0x2000) % 0x80 / 4 ≡ w = omega (arith, place) in
+      in-enables (omega (arith, p .2)) (omega (arith, p .2, contexts, l .contexts .1))
+      ∙ ap₂ (enableAt h) context word ∙ cond-so _ _ (and-intro (p .0) (p .1))
+  stands-decodes l (Threshold c) p =
+      let context : (off - 0x200000) / 0x1000 ≡ c = omega (arith, p .1) in
+      let place : (off - 0x200000) % 0x1000 ≡ 0 = omega (arith, p .1) in
+      in-pages (omega (arith, p .1)) ∙ ap₂ (pageAt h) context place ∙ cond-so _ _ (and-intro (p .0) refl)
+  stands-decodes l (Claim c) p =
+      let context : (off - 0x200000) / 0x1000 ≡ c = omega (arith, p .1) in
+      let place : (off - 0x200000) % 0x1000 ≡ 4 = omega (arith, p .1) in
+      in-pages (omega (arith, p .1)) ∙ ap₂ (pageAt h) context place
+      ∙ cond-not _ _ (and-false (isContext h c)) ∙ cond-so _ _ (and-intro (p .0) refl)
+  stands-decodes l Nothing p = absurd p
+
+  -- what an aligned offset decodes to, stands there
+  Decoded : Register → Type 0
+  Decoded r = (r ≡ Nothing) ⊎ StandsAt h off r
+
+  decoded-cond : (b : Bool) (r : Register) → (So b → StandsAt h off r) → Decoded (cond b r Nothing)
+  unfolding Decoded
+  decoded-cond true r f = inr (f refl)
+  decoded-cond false r f = inl refl
+
+  decoded-page : (c place : ℕ) → off ≡ 0x200000 + 0x1000 * c + place → Decoded (pageAt h c place)
+  unfolding pageAt Decoded
+  decoded-page c place e = ⊎-elim
+      (λ t. subst Decoded (sym (cond-so _ _ t)) (inr (and-left (isContext h c) _ t, omega (arith, e, eqb-true place 0 (and-right (isContext h c) _ t)))))
+      (λ t. subst Decoded (sym (cond-not _ _ t)) (decoded-cond (isContext h c && eqb place 4) (Claim c)
+      (λ u. (and-left (isContext h c) _ u, omega (arith, e, eqb-true place 4 (and-right (isContext h c) _ u))))))
+      (dichotomy (isContext h c && eqb place 0))
+
+  decoded : off % 4 ≡ 0 → Decoded (decode h off)
+  unfolding priorityAt pendingAt enableAt
+  decoded aligned = ⊎-elim
+      (λ a. subst Decoded (sym (in-priorities (ltb-true off 0x1000 a)))
+      (decoded-cond (isSource h (off / 4)) (Priority (off / 4)) (λ t. (t, omega arith))))
+      (λ a. ⊎-elim
+      (λ b. subst Decoded (sym (in-pending (ltb-false off 0x1000 a) (ltb-true off 0x2000 b)))
+      (decoded-cond (isWord h ((off - 0x1000) / 4)) (Pending ((off - 0x1000) / 4))
+      (λ t. (t, omega (arith, ltb-false off 0x1000 a)))))
+      (λ b. ⊎-elim
+      (λ d. subst Decoded (sym (in-enables (ltb-false off 0x2000 b) (ltb-true off 0x200000 d)))
+      (decoded-cond (isContext h ((off - 0x2000) / 0x80) && isWord h ((off - 0x2000) % 0x80 / 4))
+      (Enable ((off - 0x2000) / 0x80) ((off - 0x2000) % 0x80 / 4))
+      (λ t. (
+        and-left _ (isWord h ((off - 0x2000) % 0x80 / 4)) t,
+        and-right (isContext h ((off - 0x2000) / 0x80)) _ t,
+        omega (arith, ltb-false off 0x2000 b),
+      ))))
+      (λ d. subst Decoded (sym (in-pages (ltb-false off 0x200000 d)))
+      (decoded-page ((off - 0x200000) / 0x1000) ((off - 0x200000) % 0x1000) (omega (arith, ltb-false off 0x200000 d))))
+      (dichotomy (ltb off 0x200000)))
+      (dichotomy (ltb off 0x2000)))
+      (dichotomy (ltb off 0x1000))
+
+  module _ (limits : WithinLimits (h .sources) (h .contexts) (h .bits)) (aligned : off % 4 ≡ 0) where
+    -- each register of the map is met by exactly its offset
+    pub decode-iff : (r : Register) → r ≢ Nothing → (decode h off ≡ r) ↔ StandsAt h off r
+    unfolding Decoded
+    decode-iff r ne = (
+      (λ e. ⊎-elim (λ n. absurd (ne (sym e ∙ n))) (λ t. subst (StandsAt h off) e t) (decoded aligned)),
+      stands-decodes limits r,
+    )
+
+    -- and every other aligned offset by none
+    pub decode-nothing : (decode h off ≡ Nothing) ↔ ((r : Register) → StandsAt h off r → ⊥)
+    unfolding Decoded
+    decode-nothing = (
+      (λ e r t. subst (StandsAt h off) (sym (stands-decodes limits r t) ∙ e) t),
+      (λ none. ⊎-elim (λ n. n) (λ t. absurd (none (decode h off) t)) (decoded aligned)),
+    )
+
+-- "Source n is bit n mod 32 of word n / 32": a word packed from the sources' bits has each source's bit in that place
+pub source-bit : (f : ℕ → Bool) (n : ℕ) → bit (packed (λ j. f (n / 32 * 32 + j)) 32) (n % 32) ≡ f n
+source-bit f n = bit-packed (λ j. f (n / 32 * 32 + j)) 32 (n % 32) (mod-lt n (omega arith)) ∙ ap f (div-add-mod' n 32)
+
+pub pending-bit : (s : State) (n : ℕ) → bit (pendingWord s (n / 32)) (n % 32) ≡ isPending (request (s .requests) n)
+unfolding pendingWord
+pending-bit s n = source-bit (λ i. isPending (request (s .requests) i)) n

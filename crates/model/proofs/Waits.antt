@@ -1,0 +1,75 @@
+-- The table of upper ends follows its rule, and a wait belongs to exactly one bucket.
+-- Assumes nothing.
+use mathlib.Core.Path.{_≡_, _∙_, refl, sym, ap, subst}
+use mathlib.Core.Bool.{Bool, true, false, So}
+use mathlib.Core.Logic.{_⊎_, ⊎-elim, _↔_}
+use Prim.Native.Nat.{ℕ, zero, suc, _+_, _-_, _*_, _^_, _≤_, _<_}
+use native.Mathlib.Omega.{arith}
+use lib.Dec.{leb, ltb, eqb}
+use lib.Pow.{pow-pos, pow-mono}
+use borrow.Author.Tests.{leb-true, leb-false, le-leb, ltb-true, ltb-false, eqb-true}
+use Rattle.laws.specs.Fold.{allTo, firstTo, First}
+use Rattle.laws.proofs.Truth.{dichotomy, not-so, so-not}
+use Rattle.laws.proofs.Fold.{all-at, first-is, first-once}
+use Rattle.model.specs.Waits.{upperEnds, upperEnd, lowerEnd, Holds, bucketOf}
+
+-- one test over the whole table
+table : So (allTo (λ k. eqb (upperEnd k) (2 ^ k - 1)) 33)
+unfolding allTo upperEnd upperEnds
+table = refl
+
+-- the upper end of bucket k is 2^k - 1
+pub upper-rule : (k : ℕ) → k < 33 → upperEnd k ≡ 2 ^ k - 1
+upper-rule k h = eqb-true (upperEnd k) (2 ^ k - 1) (all-at (λ k. eqb (upperEnd k) (2 ^ k - 1)) 33 table k h)
+
+module _ (w : ℕ) where
+  test : ℕ → Bool
+  test k = leb w (upperEnd k)
+
+  test-is : (k : ℕ) → k < 33 → So (test k) → w ≤ 2 ^ k - 1
+  unfolding test
+  test-is k h t = subst (λ (e : ℕ). w ≤ e) (upper-rule k h) (leb-true w (upperEnd k) t)
+
+  is-test : (k : ℕ) → k < 33 → w ≤ 2 ^ k - 1 → So (test k)
+  unfolding test
+  is-test k h l = le-leb w (upperEnd k) (subst (λ (e : ℕ). w ≤ e) (sym (upper-rule k h)) l)
+
+  lower-of : (k : ℕ) → k < 33 → First test 33 k → lowerEnd k ≤ w
+  unfolding lowerEnd
+  lower-of zero h f = omega arith
+  lower-of (suc k) h f = ⊎-elim
+      (λ (t : So (ltb w (2 ^ k))). absurd (f .before k (omega arith) (is-test k (omega arith) (omega (arith, ltb-true w (2 ^ k) t)))))
+      (ltb-false w (2 ^ k))
+      (dichotomy (ltb w (2 ^ k)))
+
+  below-lower : (j k : ℕ) → j < k → lowerEnd k ≤ w → 2 ^ j ≤ w
+  unfolding lowerEnd
+  below-lower j zero h l = absurd (omega arith)
+  below-lower j (suc k) h l = omega (arith, pow-mono {i = j} {j = k} (omega arith))
+
+  first-holds : w ≤ 4294967295 → (k : ℕ) → First test 33 k → Holds k w
+  first-holds most k f = record { exists = omega (arith, below); lower = lower-of k below f; upper = test-is k below (f .found below) }
+    where
+      below : k < 33
+      below = ⊎-elim
+          (λ (t : So (ltb k 33)). ltb-true k 33 t)
+          (λ t. absurd (f .before 32 (omega (arith, ltb-false k 33 t)) (is-test 32 (omega arith) most)))
+          (dichotomy (ltb k 33))
+
+  holds-first : (k : ℕ) → Holds k w → First test 33 k
+  holds-first k h = record {
+    within = omega (arith, h .exists);
+    before = λ j l t. absurd (omega (arith, test-is j (omega (arith, h .exists)) t, below-lower j k l (h .lower), pow-pos j));
+    found = λ l. is-test k l (h .upper);
+  }
+
+  -- a wait belongs to exactly one bucket, whose lower and upper end enclose it
+  pub bucket-iff : w ≤ 4294967295 → (k : ℕ) → (bucketOf w ≡ k) ↔ Holds k w
+  unfolding bucketOf test
+  bucket-iff most k = (
+    (λ e. first-holds most k (subst (First test 33) e (first-is test 33))),
+    (λ h. first-once test 33 (first-is test 33) (holds-first k h)),
+  )
+
+  pub bucket-holds : w ≤ 4294967295 → Holds (bucketOf w) w
+  bucket-holds most = bucket-iff most (bucketOf w) .0 refl

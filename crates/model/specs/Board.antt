@@ -1,0 +1,161 @@
+-- Document 01, "What the board contains": the shape and its limits, the fresh state, and how the rest reads and changes a state.
+-- Assumes nothing.
+use mathlib.Core.Bool.{Bool, true, false, _&&_}
+use mathlib.Core.List.{List, [], _∷_, _++_}
+use Prim.Native.Nat.{ℕ, zero, suc, _+_, _-_, _*_, _/_, _%_, _≤_, _<_}
+use lib.Dec.{leb, ltb, eqb}
+use lib.ListN.{length, getD, set, replicate}
+use Rattle.laws.specs.Fold.{allTo, allOf}
+use Rattle.laws.specs.Bits.{bit}
+use Rattle.model.specs.declared.Shape.{Shape}
+use Rattle.model.specs.declared.Settings.{Settings}
+use Rattle.model.specs.declared.Requests.{Requests}
+use Rattle.model.specs.declared.Buckets.{Buckets}
+use Rattle.model.specs.declared.State.{State}
+
+-- "A shape is: N sources (1 to 127), C contexts (1 to 8), b priority bits (1 to 5), .."
+unfoldable pub withinLimits : ℕ → ℕ → ℕ → Bool
+withinLimits n c b = allOf (leb 1 n ∷ leb n 127 ∷ leb 1 c ∷ leb c 8 ∷ leb 1 b ∷ leb b 5 ∷ [])
+
+-- ".. and one kind byte for each source 1..N: 0 level, 1 edge that drops extra edges, 2 edge that counts them"
+unfoldable pub kindsFor : ℕ → List ℕ → Bool
+kindsFor n kinds = eqb (length kinds) n && allTo (λ i. leb (getD kinds i 0) 2) (length kinds)
+
+-- the numbers that are sources, contexts, and words of 32 sources
+unfoldable pub isSource : Shape → ℕ → Bool
+isSource h i = leb 1 i && leb i (h .sources)
+
+unfoldable pub isContext : Shape → ℕ → Bool
+isContext h c = ltb c (h .contexts)
+
+unfoldable pub isWord : Shape → ℕ → Bool
+isWord h w = leb w (h .sources / 32)
+
+unfoldable pub kindOf : Shape → ℕ → ℕ
+kindOf h i = getD (h .kind) i 0
+
+-- "The state has room for 128 sources, number 0 included, all of it zero when fresh except the shape."
+unfoldable pub zeroShape : Shape
+zeroShape = record { sources = 0; contexts = 0; bits = 0; kind = replicate 128 0 }
+
+unfoldable pub freshIn : Shape → State
+freshIn h = record {
+  shape = h;
+  clock = 0;
+  steps = 0;
+  settings = record { priority = replicate 128 0; enable = replicate 32 0; threshold = replicate 8 0 };
+  requests = record {
+    stage = replicate 128 0;
+    line = replicate 128 false;
+    extra = replicate 128 0;
+    start = replicate 128 0;
+    claims = replicate 128 0;
+    waited = replicate 128 0;
+  };
+  buckets = record { claims = replicate 33 0; ticks = replicate 33 0 };
+}
+
+unfoldable pub zeroState : State
+unfolding freshIn
+zeroState = freshIn zeroShape
+
+-- the shape of the numbers and kind bytes that a caller hands over: kind byte i is that of source i + 1
+unfoldable pub shapeOf : ℕ → ℕ → ℕ → List ℕ → Shape
+shapeOf n c b kinds = record { sources = n; contexts = c; bits = b; kind = 0 ∷ (kinds ++ replicate (127 - length kinds) 0) }
+
+-- one source's request, read out of the state and put back
+
+pub record Request : Type 0 where
+  pub stage : ℕ
+  pub line : Bool
+  pub extra : ℕ
+  pub start : ℕ
+  pub claims : ℕ
+  pub waited : ℕ
+
+unfoldable pub request : Requests → ℕ → Request
+request q i = record {
+  stage = getD (q .stage) i 0;
+  line = getD (q .line) i false;
+  extra = getD (q .extra) i 0;
+  start = getD (q .start) i 0;
+  claims = getD (q .claims) i 0;
+  waited = getD (q .waited) i 0;
+}
+
+unfoldable pub setRequest : Requests → ℕ → Request → Requests
+setRequest q i r = record {
+  stage = set (q .stage) i (r .stage);
+  line = set (q .line) i (r .line);
+  extra = set (q .extra) i (r .extra);
+  start = set (q .start) i (r .start);
+  claims = set (q .claims) i (r .claims);
+  waited = set (q .waited) i (r .waited);
+}
+
+-- what software has set
+
+unfoldable pub priority : Settings → ℕ → ℕ
+priority g i = getD (g .priority) i 0
+
+unfoldable pub threshold : Settings → ℕ → ℕ
+threshold g c = getD (g .threshold) c 0
+
+unfoldable pub enableWord : Settings → ℕ → ℕ → ℕ
+enableWord g c w = getD (g .enable) (c * 4 + w) 0
+
+-- "Source n is bit n mod 32 of word n / 32."
+unfoldable pub enabled : Settings → ℕ → ℕ → Bool
+enabled g c i = bit (enableWord g c (i / 32)) (i % 32)
+
+-- the state with one group of its fields changed
+
+unfoldable pub withClock : State → ℕ → State
+withClock s t = record {
+  shape = s .shape;
+  clock = t;
+  steps = s .steps;
+  settings = s .settings;
+  requests = s .requests;
+  buckets = s .buckets;
+}
+
+unfoldable pub withSteps : State → ℕ → State
+withSteps s n = record {
+  shape = s .shape;
+  clock = s .clock;
+  steps = n;
+  settings = s .settings;
+  requests = s .requests;
+  buckets = s .buckets;
+}
+
+unfoldable pub withSettings : State → Settings → State
+withSettings s g = record {
+  shape = s .shape;
+  clock = s .clock;
+  steps = s .steps;
+  settings = g;
+  requests = s .requests;
+  buckets = s .buckets;
+}
+
+unfoldable pub withRequest : State → ℕ → Request → State
+withRequest s i r = record {
+  shape = s .shape;
+  clock = s .clock;
+  steps = s .steps;
+  settings = s .settings;
+  requests = setRequest (s .requests) i r;
+  buckets = s .buckets;
+}
+
+unfoldable pub withBuckets : State → Buckets → State
+withBuckets s b = record {
+  shape = s .shape;
+  clock = s .clock;
+  steps = s .steps;
+  settings = s .settings;
+  requests = s .requests;
+  buckets = b;
+}

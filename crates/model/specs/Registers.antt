@@ -1,0 +1,103 @@
+-- Document 01, "Register map (32-bit words, offsets from base)".
+-- Assumes nothing.
+use mathlib.Core.Path.{_≡_}
+use mathlib.Core.Bool.{Bool, true, false, cond, _&&_, So}
+use Prim.Native.Nat.{ℕ, zero, suc, _+_, _-_, _*_, _/_, _%_, _^_, _≤_, _<_}
+use lib.Dec.{leb, ltb, eqb}
+use lib.ListN.{getD, set}
+use Rattle.laws.specs.Bits.{bit, packed}
+use Rattle.model.specs.declared.Shape.{Shape}
+use Rattle.model.specs.declared.State.{State}
+use Rattle.model.specs.declared.Settings.{Settings}
+use Rattle.model.specs.declared.Register.{Register}
+use Rattle.model.specs.declared.Register.the-variants.{Priority, Pending, Enable, Threshold, Claim, Nothing}
+use Rattle.model.specs.Board.{isSource, isContext, isWord, request, priority, threshold, enableWord, withSettings}
+use Rattle.model.specs.Waits.{isPending}
+use Rattle.model.specs.Life.{winner, claimBy, completeBy}
+
+-- the map, as the fact that a register stands at an offset
+abbrev pub StandsAt : Shape → ℕ → Register → Type 0
+StandsAt h off (Priority s) = So (isSource h s) × (off ≡ 4 * s)
+StandsAt h off (Pending w) = So (isWord h w) × (off ≡ 0x1000 + 4 * w)
+StandsAt h off (Enable c w) = So (isContext h c) × So (isWord h w) × (off ≡ 0x2000 + 0x80 * c + 4 * w)
+StandsAt h off (Threshold c) = So (isContext h c) × (off ≡ 0x200000 + 0x1000 * c)
+StandsAt h off (Claim c) = So (isContext h c) × (off ≡ 0x200004 + 0x1000 * c)
+StandsAt h off Nothing = ⊥
+
+-- the map, as a decoding of an offset: "All else up to 0x3FFFFFC, including registers of absent sources and contexts", is nothing
+unfoldable pub priorityAt : Shape → ℕ → Register
+priorityAt h s = cond (isSource h s) (Priority s) Nothing
+
+unfoldable pub pendingAt : Shape → ℕ → Register
+pendingAt h w = cond (isWord h w) (Pending w) Nothing
+
+unfoldable pub enableAt : Shape → ℕ → ℕ → Register
+enableAt h c w = cond (isContext h c && isWord h w) (Enable c w) Nothing
+
+unfoldable pub pageAt : Shape → ℕ → ℕ → Register
+pageAt h c place =
+    cond (isContext h c && eqb place 0) (Threshold c) (cond (isContext h c && eqb place 4) (Claim c) Nothing)
+
+unfoldable pub decode : Shape → ℕ → Register
+decode h off =
+    cond (ltb off 0x1000) (priorityAt h (off / 4))
+    (cond (ltb off 0x2000) (pendingAt h ((off - 0x1000) / 4))
+    (cond (ltb off 0x200000) (enableAt h ((off - 0x2000) / 0x80) ((off - 0x2000) % 0x80 / 4))
+    (pageAt h ((off - 0x200000) / 0x1000) ((off - 0x200000) % 0x1000))))
+
+-- "pending bits of sources 32w to 32w + 31"
+unfoldable pub pendingWord : State → ℕ → ℕ
+pendingWord s w = packed (λ j. isPending (request (s .requests) (w * 32 + j))) 32
+
+-- "Bit 0 of word 0 and bits above N stay zero."
+unfoldable pub kept : Shape → ℕ → ℕ → ℕ
+kept h w v = packed (λ j. bit v j && isSource h (w * 32 + j)) 32
+
+-- what a read gives; "reading claims"; nothing "reads 0"
+unfoldable pub readOf : State → Register → ℕ
+readOf s (Priority i) = priority (s .settings) i
+readOf s (Pending w) = pendingWord s w
+readOf s (Enable c w) = enableWord (s .settings) c w
+readOf s (Threshold c) = threshold (s .settings) c
+readOf s (Claim c) = winner s c
+readOf s Nothing = 0
+
+unfoldable pub afterRead : State → Register → State
+afterRead s (Priority i) = s
+afterRead s (Pending w) = s
+afterRead s (Enable c w) = s
+afterRead s (Threshold c) = s
+afterRead s (Claim c) = claimBy s c
+afterRead s Nothing = s
+
+-- "A write keeps value mod 2^b."
+unfoldable pub withPriority : State → ℕ → ℕ → State
+withPriority s i v = withSettings s (record {
+  priority = set (s .settings .priority) i (v % 2 ^ s .shape .bits);
+  enable = s .settings .enable;
+  threshold = s .settings .threshold;
+})
+
+unfoldable pub withEnable : State → ℕ → ℕ → ℕ → State
+withEnable s c w v = withSettings s (record {
+  priority = s .settings .priority;
+  enable = set (s .settings .enable) (c * 4 + w) (kept (s .shape) w v);
+  threshold = s .settings .threshold;
+})
+
+-- "threshold, kept mod 2^b"
+unfoldable pub withThreshold : State → ℕ → ℕ → State
+withThreshold s c v = withSettings s (record {
+  priority = s .settings .priority;
+  enable = s .settings .enable;
+  threshold = set (s .settings .threshold) c (v % 2 ^ s .shape .bits);
+})
+
+-- what a write does; "writing completes"; to pending bits, and to nothing, "writes change nothing (house rule)"
+unfoldable pub afterWrite : State → Register → ℕ → State
+afterWrite s (Priority i) v = withPriority s i v
+afterWrite s (Pending w) v = s
+afterWrite s (Enable c w) v = withEnable s c w v
+afterWrite s (Threshold c) v = withThreshold s c v
+afterWrite s (Claim c) v = completeBy s c v
+afterWrite s Nothing v = s

@@ -1,0 +1,162 @@
+-- Document 01, "Numbers of refusal", the paragraph on Sound: as a test, and clause by clause as plain facts.
+-- The first clause is what the state's own types say: an array has its length, and clock and steps fit 32 bits.
+-- Assumes nothing.
+use mathlib.Core.Path.{_≡_}
+use mathlib.Core.Bool.{Bool, true, false, not, cond, _&&_, _||_, So}
+use mathlib.Core.Logic.{_≢_}
+use mathlib.Core.List.{List, [], _∷_}
+use Prim.Native.Nat.{ℕ, zero, suc, _+_, _-_, _*_, _^_, _≤_, _<_}
+use lib.Dec.{leb, ltb, eqb}
+use lib.ListN.{length}
+use Rattle.laws.specs.Fold.{sumTo, allTo, allOf}
+use Rattle.laws.specs.Bits.{bit}
+use Rattle.model.specs.declared.Shape.{Shape}
+use Rattle.model.specs.declared.Settings.{Settings}
+use Rattle.model.specs.declared.State.{State}
+use Rattle.model.specs.Board.{Request, request, withinLimits, isSource, isContext, kindOf, priority, threshold, enableWord}
+use Rattle.model.specs.Waits.{isIdle, isPending, openAge, boardClaims, boardWaited, bucketClaims, bucketTicks}
+use Rattle.model.specs.Registers.{kept}
+
+-- the test
+
+unfoldable pub typed : State → Bool
+typed s = allOf (
+    eqb (length (s .shape .kind)) 128
+    ∷ eqb (length (s .settings .priority)) 128
+    ∷ eqb (length (s .settings .enable)) 32
+    ∷ eqb (length (s .settings .threshold)) 8
+    ∷ eqb (length (s .requests .stage)) 128
+    ∷ eqb (length (s .requests .line)) 128
+    ∷ eqb (length (s .requests .extra)) 128
+    ∷ eqb (length (s .requests .start)) 128
+    ∷ eqb (length (s .requests .claims)) 128
+    ∷ eqb (length (s .requests .waited)) 128
+    ∷ eqb (length (s .buckets .claims)) 33
+    ∷ eqb (length (s .buckets .ticks)) 33
+    ∷ leb (s .clock) 4294967295
+    ∷ leb (s .steps) 4294967295
+    ∷ [])
+
+-- "everything zero for source 0, sources above N"
+unfoldable pub allZero : ℕ → ℕ → Request → Bool
+allZero kind prio r = allOf (
+    eqb kind 0
+    ∷ eqb prio 0
+    ∷ eqb (r .stage) 0
+    ∷ not (r .line)
+    ∷ eqb (r .extra) 0
+    ∷ eqb (r .start) 0
+    ∷ eqb (r .claims) 0
+    ∷ eqb (r .waited) 0
+    ∷ [])
+
+-- the clauses on one source
+unfoldable pub soundSource : Shape → ℕ → ℕ → ℕ → Request → Bool
+soundSource h clock i prio r = allOf (
+    leb (kindOf h i) 2
+    ∷ (isSource h i || allZero (kindOf h i) prio r)
+    ∷ leb prio (2 ^ h .bits - 1)
+    ∷ leb (r .stage) 2
+    ∷ leb (r .start) clock
+    ∷ (isPending r || eqb (r .start) 0)
+    ∷ leb (r .extra) 255
+    ∷ (eqb (kindOf h i) 2 || eqb (r .extra) 0)
+    ∷ (not (isIdle r) || eqb (r .extra) 0)
+    ∷ not (eqb (kindOf h i) 0 && isIdle r && r .line)
+    ∷ leb (r .waited + openAge clock r) clock
+    ∷ [])
+
+-- the clauses on one context
+unfoldable pub soundContext : Shape → Settings → ℕ → Bool
+soundContext h g c = allOf (
+    (isContext h c || eqb (threshold g c) 0)
+    ∷ (isContext h c || allTo (λ w. eqb (enableWord g c w) 0) 4)
+    ∷ leb (threshold g c) (2 ^ h .bits - 1)
+    ∷ allTo (λ w. eqb (enableWord g c w) (kept h w (enableWord g c w))) 4
+    ∷ [])
+
+unfoldable pub sound : State → Bool
+sound s = allOf (
+    typed s
+    ∷ withinLimits (s .shape .sources) (s .shape .contexts) (s .shape .bits)
+    ∷ allTo (λ i. soundSource (s .shape) (s .clock) i (priority (s .settings) i) (request (s .requests) i)) 128
+    ∷ allTo (soundContext (s .shape) (s .settings)) 8
+    ∷ leb (boardClaims (s .requests)) (s .steps)
+    ∷ eqb (boardClaims (s .requests)) (sumTo (bucketClaims (s .buckets)) 33)
+    ∷ eqb (boardWaited (s .requests)) (sumTo (bucketTicks (s .buckets)) 33)
+    ∷ [])
+
+-- the plain facts
+
+pub record Typed (s : State) : Type 0 where
+  pub kind : length (s .shape .kind) ≡ 128
+  pub priority : length (s .settings .priority) ≡ 128
+  pub enable : length (s .settings .enable) ≡ 32
+  pub threshold : length (s .settings .threshold) ≡ 8
+  pub stage : length (s .requests .stage) ≡ 128
+  pub line : length (s .requests .line) ≡ 128
+  pub extra : length (s .requests .extra) ≡ 128
+  pub start : length (s .requests .start) ≡ 128
+  pub claims : length (s .requests .claims) ≡ 128
+  pub waited : length (s .requests .waited) ≡ 128
+  pub bucketClaims : length (s .buckets .claims) ≡ 33
+  pub bucketTicks : length (s .buckets .ticks) ≡ 33
+  pub clock : s .clock ≤ 4294967295
+  pub steps : s .steps ≤ 4294967295
+
+-- "shape within limits"
+pub record WithinLimits (n c b : ℕ) : Type 0 where
+  pub sources : (1 ≤ n) × (n ≤ 127)
+  pub contexts : (1 ≤ c) × (c ≤ 8)
+  pub bits : (1 ≤ b) × (b ≤ 5)
+
+pub record AllZero (k p : ℕ) (r : Request) : Type 0 where
+  pub kind : k ≡ 0
+  pub priority : p ≡ 0
+  pub stage : r .stage ≡ 0
+  pub line : r .line ≡ false
+  pub extra : r .extra ≡ 0
+  pub start : r .start ≡ 0
+  pub claims : r .claims ≡ 0
+  pub waited : r .waited ≡ 0
+
+pub record SoundSource (h : Shape) (clock i prio : ℕ) (r : Request) : Type 0 where
+  -- "shape within limits": a kind is at most 2
+  pub kind : kindOf h i ≤ 2
+  -- "everything zero for source 0, sources above N"
+  pub absent : isSource h i ≡ false → AllZero (kindOf h i) prio r
+  -- "priorities .. at most 2^b − 1"
+  pub priorities : prio ≤ 2 ^ h .bits - 1
+  -- "each stage one of the three below"
+  pub stage : r .stage ≤ 2
+  -- "a request's start time at most the clock, and zero when not pending"
+  pub start : r .start ≤ clock
+  pub startless : isPending r ≡ false → r .start ≡ 0
+  -- "extra edges (0..255) only at kind 2, and none while idle"
+  pub extra : r .extra ≤ 255
+  pub counting : kindOf h i ≢ 2 → r .extra ≡ 0
+  pub edgeless : So (isIdle r) → r .extra ≡ 0
+  -- "no level source idle with its line high"
+  pub level : kindOf h i ≡ 0 → So (isIdle r) → So (r .line) → ⊥
+  -- "for each source, closed waits plus open age at most the clock"
+  pub waits : r .waited + openAge clock r ≤ clock
+
+pub record SoundContext (h : Shape) (g : Settings) (c : ℕ) : Type 0 where
+  -- "everything zero for .. contexts not below C"
+  pub absentThreshold : isContext h c ≡ false → threshold g c ≡ 0
+  pub absentEnables : isContext h c ≡ false → (w : ℕ) → w < 4 → enableWord g c w ≡ 0
+  -- "thresholds at most 2^b − 1"
+  pub thresholds : threshold g c ≤ 2 ^ h .bits - 1
+  -- "enables only for 1..N": a set bit of a word is that of a source
+  pub enables : (w j : ℕ) → w < 4 → So (bit (enableWord g c w) j) → (j < 32) × So (isSource h (w * 32 + j))
+
+pub record Sound (s : State) : Type 0 where
+  pub types : Typed s
+  pub limits : WithinLimits (s .shape .sources) (s .shape .contexts) (s .shape .bits)
+  pub source : (i : ℕ) → i < 128 → SoundSource (s .shape) (s .clock) i (priority (s .settings) i) (request (s .requests) i)
+  pub context : (c : ℕ) → c < 8 → SoundContext (s .shape) (s .settings) c
+  -- "the claims of all sources together at most the steps, and equal to the sum of bucket claims; the sum of closed waits
+  -- equal to the sum of bucket ticks"
+  pub claims : boardClaims (s .requests) ≤ s .steps
+  pub claimsBooked : boardClaims (s .requests) ≡ sumTo (bucketClaims (s .buckets)) 33
+  pub ticksBooked : boardWaited (s .requests) ≡ sumTo (bucketTicks (s .buckets)) 33
