@@ -55,3 +55,8 @@ module _ {ℓ} {A : Type ℓ} where
 
   pub cond-not : {b : Bool} (x y : A) → b ≡ false → cond b x y ≡ y
   cond-not x y h = subst (λ (b : Bool). cond b x y ≡ y) (sym h) refl
+
+-- what holds of each side where its test says so holds of the choice
+pub cond-elim {ℓ} : {A : Type ℓ} (P : A → Type 0) (b : Bool) {x y : A} → (So b → P x) → (b ≡ false → P y) → P (cond b x y)
+cond-elim P true f g = f refl
+cond-elim P false f g = g refl

@@ -2,3 +2,9 @@ pub mod Sound
 pub mod Claim
 pub mod Waits
 pub mod Registers
+pub mod Board
+pub mod Life
+pub mod Change
+pub mod Steps
+pub mod Calls
+pub mod Make

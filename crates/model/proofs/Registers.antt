@@ -22,6 +22,7 @@ use Rattle.model.specs.Waits.{isPending}
 use Rattle.model.specs.Registers.{StandsAt, priorityAt, pendingAt, enableAt, pageAt, decode, pendingWord, kept, readOf, afterWrite, withPriority, withEnable, withThreshold}
 use Rattle.model.specs.Sound.{WithinLimits, Typed}
 use Rattle.model.proofs.Claim.{source-range}
+use Rattle.model.proofs.Sound.{kept-bit}
 
 pub context-range : (h : Shape) (c : ℕ) → So (isContext h c) → c < h .contexts
 unfolding isContext
@@ -141,6 +142,18 @@ module _ (h : Shape) (off : ℕ) where
       (λ none. ⊎-elim (λ n. n) (λ t. absurd (none (decode h off) t)) (decoded aligned)),
     )
 
+-- a register that is named is not nothing
+abbrev named : Register → Bool
+named (Priority s) = true
+named (Pending w) = true
+named (Enable c w) = true
+named (Threshold c) = true
+named (Claim c) = true
+named Nothing = false
+
+pub is-named : (r : Register) → So (named r) → r ≢ Nothing
+is-named r t e = not-so refl (subst (λ (x : Register). So (named x)) e t)
+
 -- "Source n is bit n mod 32 of word n / 32": a word packed from the sources' bits has each source's bit in that place
 pub source-bit : (f : ℕ → Bool) (n : ℕ) → bit (packed (λ j. f (n / 32 * 32 + j)) 32) (n % 32) ≡ f n
 source-bit f n = bit-packed (λ j. f (n / 32 * 32 + j)) 32 (n % 32) (mod-lt n (omega arith)) ∙ ap f (div-add-mod' n 32)
@@ -148,3 +161,31 @@ source-bit f n = bit-packed (λ j. f (n / 32 * 32 + j)) 32 (n % 32) (mod-lt n (o
 pub pending-bit : (s : State) (n : ℕ) → bit (pendingWord s (n / 32)) (n % 32) ≡ isPending (request (s .requests) n)
 unfolding pendingWord
 pending-bit s n = source-bit (λ i. isPending (request (s .requests) i)) n
+
+pub kept-source : (h : Shape) (v n : ℕ) → bit (kept h (n / 32) v) (n % 32) ≡ (bit v (n % 32) && isSource h n)
+kept-source h v n =
+    kept-bit h (n / 32) v (n % 32) (mod-lt n (omega arith)) ∙ ap (λ (k : ℕ). bit v (n % 32) && isSource h k) (div-add-mod' n 32)
+
+-- what was written reads back: a priority and a threshold mod 2^b, an enable word masked to 1..N
+module _ (s : State) (types : Typed s) where
+  pub priority-reads : (i v : ℕ) → i < 128 → readOf (afterWrite s (Priority i) v) (Priority i) ≡ v % 2 ^ s .shape .bits
+  unfolding readOf afterWrite withPriority withSettings priority
+  priority-reads i v h =
+      getD-set-same (s .settings .priority) i (v % 2 ^ s .shape .bits) 0 (omega (arith, types .priority))
+
+  pub threshold-reads : (c v : ℕ) → c < 8 → readOf (afterWrite s (Threshold c) v) (Threshold c) ≡ v % 2 ^ s .shape .bits
+  unfolding readOf afterWrite withThreshold withSettings threshold
+  threshold-reads c v h =
+      getD-set-same (s .settings .threshold) c (v % 2 ^ s .shape .bits) 0 (omega (arith, types .threshold))
+
+  pub enable-reads : (c w v : ℕ) → c < 8 → w < 4 → readOf (afterWrite s (Enable c w) v) (Enable c w) ≡ kept (s .shape) w v
+  unfolding readOf afterWrite withEnable withSettings enableWord
+  enable-reads c w v h k =
+      getD-set-same (s .settings .enable) (c * 4 + w) (kept (s .shape) w v) 0 (omega (arith, types .enable))
+
+  -- and so a source is enabled exactly if its bit was written, for each source of the word
+  pub enable-written : (c n v : ℕ) → c < 8 → n < 128 →
+      enabled (afterWrite s (Enable c (n / 32)) v .settings) c n ≡ (bit v (n % 32) && isSource (s .shape) n)
+  unfolding enabled readOf
+  enable-written c n v h k =
+      ap (λ (x : ℕ). bit x (n % 32)) (enable-reads c (n / 32) v h (omega arith)) ∙ kept-source (s .shape) v n

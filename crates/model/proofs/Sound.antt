@@ -44,12 +44,14 @@ typed-facts s h = record {
   priority = eqb-true _ _ (test-at _ h 1);
   enable = eqb-true _ _ (test-at _ h 2);
   threshold = eqb-true _ _ (test-at _ h 3);
-  stage = eqb-true _ _ (test-at _ h 4);
-  line = eqb-true _ _ (test-at _ h 5);
-  extra = eqb-true _ _ (test-at _ h 6);
-  start = eqb-true _ _ (test-at _ h 7);
-  claims = eqb-true _ _ (test-at _ h 8);
-  waited = eqb-true _ _ (test-at _ h 9);
+  requests = record {
+    stage = eqb-true _ _ (test-at _ h 4);
+    line = eqb-true _ _ (test-at _ h 5);
+    extra = eqb-true _ _ (test-at _ h 6);
+    start = eqb-true _ _ (test-at _ h 7);
+    claims = eqb-true _ _ (test-at _ h 8);
+    waited = eqb-true _ _ (test-at _ h 9);
+  };
   bucketClaims = eqb-true _ _ (test-at _ h 10);
   bucketTicks = eqb-true _ _ (test-at _ h 11);
   clock = leb-true _ _ (test-at _ h 12);
@@ -59,10 +61,11 @@ typed-facts s h = record {
 typed-test : (s : State) → Typed s → So (typed s)
 unfolding typed allOf
 typed-test s f =
+    let room = f .requests in
     and-intro (eq-eqb _ _ (f .kind)) (and-intro (eq-eqb _ _ (f .priority)) (and-intro (eq-eqb _ _ (f .enable))
-    (and-intro (eq-eqb _ _ (f .threshold)) (and-intro (eq-eqb _ _ (f .stage)) (and-intro (eq-eqb _ _ (f .line))
-    (and-intro (eq-eqb _ _ (f .extra)) (and-intro (eq-eqb _ _ (f .start)) (and-intro (eq-eqb _ _ (f .claims))
-    (and-intro (eq-eqb _ _ (f .waited)) (and-intro (eq-eqb _ _ (f .bucketClaims)) (and-intro (eq-eqb _ _ (f .bucketTicks))
+    (and-intro (eq-eqb _ _ (f .threshold)) (and-intro (eq-eqb _ _ (room .stage)) (and-intro (eq-eqb _ _ (room .line))
+    (and-intro (eq-eqb _ _ (room .extra)) (and-intro (eq-eqb _ _ (room .start)) (and-intro (eq-eqb _ _ (room .claims))
+    (and-intro (eq-eqb _ _ (room .waited)) (and-intro (eq-eqb _ _ (f .bucketClaims)) (and-intro (eq-eqb _ _ (f .bucketTicks))
     (and-intro (le-leb _ _ (f .clock)) (and-intro (le-leb _ _ (f .steps)) refl)))))))))))))
 
 pub limits-facts : (n c b : ℕ) → So (withinLimits n c b) → WithinLimits n c b

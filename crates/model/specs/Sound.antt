@@ -12,6 +12,7 @@ use Rattle.laws.specs.Fold.{sumTo, allTo, allOf}
 use Rattle.laws.specs.Bits.{bit}
 use Rattle.model.specs.declared.Shape.{Shape}
 use Rattle.model.specs.declared.Settings.{Settings}
+use Rattle.model.specs.declared.Requests.{Requests}
 use Rattle.model.specs.declared.State.{State}
 use Rattle.model.specs.Board.{Request, request, withinLimits, isSource, isContext, kindOf, priority, threshold, enableWord}
 use Rattle.model.specs.Waits.{isIdle, isPending, openAge, boardClaims, boardWaited, bucketClaims, bucketTicks}
@@ -88,17 +89,20 @@ sound s = allOf (
 
 -- the plain facts
 
+pub record Roomy (q : Requests) : Type 0 where
+  pub stage : length (q .stage) ≡ 128
+  pub line : length (q .line) ≡ 128
+  pub extra : length (q .extra) ≡ 128
+  pub start : length (q .start) ≡ 128
+  pub claims : length (q .claims) ≡ 128
+  pub waited : length (q .waited) ≡ 128
+
 pub record Typed (s : State) : Type 0 where
   pub kind : length (s .shape .kind) ≡ 128
   pub priority : length (s .settings .priority) ≡ 128
   pub enable : length (s .settings .enable) ≡ 32
   pub threshold : length (s .settings .threshold) ≡ 8
-  pub stage : length (s .requests .stage) ≡ 128
-  pub line : length (s .requests .line) ≡ 128
-  pub extra : length (s .requests .extra) ≡ 128
-  pub start : length (s .requests .start) ≡ 128
-  pub claims : length (s .requests .claims) ≡ 128
-  pub waited : length (s .requests .waited) ≡ 128
+  pub requests : Roomy (s .requests)
   pub bucketClaims : length (s .buckets .claims) ≡ 33
   pub bucketTicks : length (s .buckets .ticks) ≡ 33
   pub clock : s .clock ≤ 4294967295

@@ -1,0 +1,64 @@
+-- One source's request, read out and put back: what changes at one source, and what that does to a sum over all.
+-- Assumes nothing.
+use mathlib.Core.Path.{_≡_, _∙_, refl, sym, ap, subst}
+use mathlib.Core.Bool.{Bool, true, false}
+use mathlib.Core.Logic.{_≢_}
+use mathlib.Core.List.{List}
+use Prim.Native.Nat.{ℕ, zero, suc, _+_, _≤_, _<_}
+use native.Mathlib.Omega.{arith}
+use lib.ListN.{length, getD, set, length-set}
+use lib.Seq.{getD-set-same, getD-set-other}
+use Rattle.laws.specs.Fold.{sumTo}
+use Rattle.laws.proofs.Fold.{sum-change}
+use Rattle.model.specs.declared.Requests.{Requests}
+use Rattle.model.specs.Board.{Request, request, setRequest}
+use Rattle.model.specs.Sound.{Roomy}
+
+module _ (q : Requests) (i : ℕ) (r : Request) where
+  pub request-other : (j : ℕ) → j ≢ i → request (setRequest q i r) j ≡ request q j
+  unfolding request setRequest
+  request-other j ne = λ k. record {
+    stage = getD-set-other (q .stage) i j (r .stage) 0 ne k;
+    line = getD-set-other (q .line) i j (r .line) false ne k;
+    extra = getD-set-other (q .extra) i j (r .extra) 0 ne k;
+    start = getD-set-other (q .start) i j (r .start) 0 ne k;
+    claims = getD-set-other (q .claims) i j (r .claims) 0 ne k;
+    waited = getD-set-other (q .waited) i j (r .waited) 0 ne k;
+  }
+
+  module _ (room : Roomy q) where
+    pub roomy-set : Roomy (setRequest q i r)
+    unfolding setRequest
+    roomy-set = record {
+      stage = length-set (q .stage) i (r .stage) ∙ room .stage;
+      line = length-set (q .line) i (r .line) ∙ room .line;
+      extra = length-set (q .extra) i (r .extra) ∙ room .extra;
+      start = length-set (q .start) i (r .start) ∙ room .start;
+      claims = length-set (q .claims) i (r .claims) ∙ room .claims;
+      waited = length-set (q .waited) i (r .waited) ∙ room .waited;
+    }
+
+    pub request-same : i < 128 → request (setRequest q i r) i ≡ r
+    unfolding request setRequest
+    request-same h = λ k. record {
+      stage = getD-set-same (q .stage) i (r .stage) 0 (omega (arith, room .stage)) k;
+      line = getD-set-same (q .line) i (r .line) false (omega (arith, room .line)) k;
+      extra = getD-set-same (q .extra) i (r .extra) 0 (omega (arith, room .extra)) k;
+      start = getD-set-same (q .start) i (r .start) 0 (omega (arith, room .start)) k;
+      claims = getD-set-same (q .claims) i (r .claims) 0 (omega (arith, room .claims)) k;
+      waited = getD-set-same (q .waited) i (r .waited) 0 (omega (arith, room .waited)) k;
+    }
+
+    -- a sum over all sources changes by as much as the one does
+    pub request-sum : (f : Request → ℕ) → i < 128 →
+        sumTo (λ j. f (request (setRequest q i r) j)) 128 + f (request q i) ≡ sumTo (λ j. f (request q j)) 128 + f r
+    request-sum f h =
+        sum-change (λ j. f (request q j)) (λ j. f (request (setRequest q i r) j)) 128 i h (λ j ne. sym (ap f (request-other j ne)))
+        ∙ ap (λ (x : ℕ). sumTo (λ j. f (request q j)) 128 + x) (ap f (request-same h))
+
+-- a sum over a list changes by as much as the element does
+pub list-sum : (l : List ℕ) (n i x : ℕ) → i < n → i < length l →
+    sumTo (λ k. getD (set l i x) k 0) n + getD l i 0 ≡ sumTo (λ k. getD l k 0) n + x
+list-sum l n i x h k =
+    sum-change (λ j. getD l j 0) (λ j. getD (set l i x) j 0) n i h (λ j ne. sym (getD-set-other l i j x 0 ne))
+    ∙ ap (λ (y : ℕ). sumTo (λ j. getD l j 0) n + y) (getD-set-same l i x 0 k)

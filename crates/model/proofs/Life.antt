@@ -1,0 +1,155 @@
+-- Each change in the life of a request keeps its source sound.
+-- Assumes nothing.
+use mathlib.Core.Path.{_≡_, _∙_, refl, sym, ap, subst}
+use mathlib.Core.Bool.{Bool, true, false, not, cond, _&&_, So}
+use mathlib.Core.Logic.{_⊎_, ⊎-elim, _≢_}
+use Prim.Native.Nat.{ℕ, zero, suc, _+_, _-_, _^_, _≤_, _<_}
+use native.Mathlib.Omega.{arith}
+use lib.Dec.{leb, ltb, eqb}
+use borrow.Author.Tests.{leb-true, ltb-true, ltb-false, eqb-true, eqb-false, eq-eqb, ne-eqb}
+use Rattle.laws.proofs.Truth.{dichotomy, not-so, and-intro, and-left, and-right, cond-so, cond-not, cond-elim}
+use Rattle.model.specs.declared.Shape.{Shape}
+use Rattle.model.specs.Board.{Request, isSource, kindOf}
+use Rattle.model.specs.Waits.{isIdle, isPending, isInService, openAge, wait}
+use Rattle.model.specs.Life.{lineAt, raised, edgeCounted, levelChanged, edgeChanged, lineChanged, served, idled, edgeTaken, completed}
+use Rattle.model.specs.Sound.{AllZero, SoundSource}
+
+module _ (h : Shape) (clock i prio : ℕ) (source : So (isSource h i)) where
+  abbrev Fine : Request → Type 0
+  Fine r = SoundSource h clock i prio r
+
+  -- a request that has just become pending
+  raised-fine : (r₀ r : Request) → Fine r₀ → r .extra ≤ 255 → (kindOf h i ≢ 2 → r .extra ≡ 0) → r .waited ≤ clock → Fine (raised clock r)
+  unfolding raised isPending isIdle openAge
+  raised-fine r₀ r f most counting waited = record {
+    kind = f .kind;
+    absent = λ e. absurd (not-so e source);
+    priorities = f .priorities;
+    stage = omega arith;
+    start = omega arith;
+    startless = λ e. absurd (not-so e refl);
+    extra = most;
+    counting = counting;
+    edgeless = λ e. absurd (not-so refl e);
+    level = λ k e. absurd (not-so refl e);
+    waits = omega arith;
+  }
+
+  closed-waits : (r : Request) → Fine r → r .waited ≤ clock
+  closed-waits r f = omega (arith, f .waits)
+
+  -- a request whose line alone has changed
+  line-fine : (v : Bool) (r : Request) → Fine r → (kindOf h i ≡ 0 → So (isIdle r) → So v → ⊥) → Fine (lineAt v r)
+  unfolding lineAt isPending isIdle openAge
+  line-fine v r f level = record {
+    kind = f .kind;
+    absent = λ e. absurd (not-so e source);
+    priorities = f .priorities;
+    stage = f .stage;
+    start = f .start;
+    startless = f .startless;
+    extra = f .extra;
+    counting = f .counting;
+    edgeless = f .edgeless;
+    level = level;
+    waits = f .waits;
+  }
+
+  counted-fine : (r : Request) → Fine r → isIdle r ≡ false → kindOf h i ≡ 2 → Fine (edgeCounted r)
+  unfolding edgeCounted isPending isIdle openAge
+  counted-fine r f busy two = record {
+    kind = f .kind;
+    absent = λ e. absurd (not-so e source);
+    priorities = f .priorities;
+    stage = f .stage;
+    start = f .start;
+    startless = f .startless;
+    extra = cond-elim (λ x. x ≤ 255) (ltb (r .extra) 255) (λ t. omega (arith, ltb-true (r .extra) 255 t)) (λ _. f .extra);
+    counting = λ ne. absurd (ne two);
+    edgeless = λ e. absurd (not-so busy e);
+    level = λ _ e. absurd (not-so busy e);
+    waits = f .waits;
+  }
+
+  module _ (v : Bool) (r : Request) (f : Fine r) where
+    line-raised : Fine (raised clock (lineAt v r))
+    unfolding lineAt
+    line-raised = raised-fine r (lineAt v r) f (f .extra) (f .counting) (closed-waits r f)
+
+    -- "Level. Idle with the line high becomes pending at once."
+    level-fine : Fine (levelChanged clock v r)
+    unfolding levelChanged
+    level-fine = cond-elim Fine (isIdle r && v) (λ _. line-raised)
+        (λ t. line-fine v r f (λ _ a b. not-so t (and-intro a b)))
+
+    edge-fine : kindOf h i ≢ 0 → Fine (edgeChanged (kindOf h i) clock v r)
+    unfolding edgeChanged
+    edge-fine edge = cond-elim Fine (not (r .line) && v)
+        (λ _. cond-elim Fine (isIdle r) (λ _. line-raised)
+        (λ busy. cond-elim Fine (eqb (kindOf h i) 2)
+        (λ two. counted-fine (lineAt v r) quiet (line-busy busy) (eqb-true _ _ two))
+        (λ _. quiet)))
+        (λ _. quiet)
+      where
+        quiet : Fine (lineAt v r)
+        quiet = line-fine v r f (λ k. absurd (edge k))
+
+        line-busy : isIdle r ≡ false → isIdle (lineAt v r) ≡ false
+        line-busy e = unfold lineAt isIdle in e
+
+    pub line-kept : Fine (lineChanged (kindOf h i) clock v r)
+    unfolding lineChanged
+    line-kept = cond-elim Fine (eqb (kindOf h i) 0) (λ _. level-fine) (λ t. edge-fine (eqb-false _ _ t))
+
+  -- "It goes into service and its wait is booked."
+  pub served-kept : (r : Request) → Fine r → So (isPending r) → Fine (served clock r)
+  unfolding served wait isPending isIdle openAge
+  served-kept r f pending = record {
+    kind = f .kind;
+    absent = λ e. absurd (not-so e source);
+    priorities = f .priorities;
+    stage = omega arith;
+    start = omega arith;
+    startless = λ _. refl;
+    extra = f .extra;
+    counting = f .counting;
+    edgeless = λ e. absurd (not-so refl e);
+    level = λ _ e. absurd (not-so refl e);
+    waits = omega (arith, f .waits, cond-so (clock - r .start) 0 pending);
+  }
+
+  idled-fine : (r : Request) → Fine r → r .extra ≡ 0 → (kindOf h i ≡ 0 → So (r .line) → ⊥) → Fine (idled r)
+  unfolding idled isPending isIdle openAge
+  idled-fine r f none low = record {
+    kind = f .kind;
+    absent = λ e. absurd (not-so e source);
+    priorities = f .priorities;
+    stage = omega arith;
+    start = omega arith;
+    startless = λ _. refl;
+    extra = f .extra;
+    counting = f .counting;
+    edgeless = λ _. none;
+    level = λ k _ l. low k l;
+    waits = omega (arith, f .waits);
+  }
+
+  -- "Taking effect, the source is idle; then .. pending again in the same step."
+  pub completed-kept : (r : Request) → Fine r → Fine (completed (kindOf h i) clock r)
+  unfolding completed
+  completed-kept r f = cond-elim Fine (eqb (kindOf h i) 0 && r .line)
+      (λ _. raised-fine r r f (f .extra) (f .counting) (closed-waits r f))
+      (λ low. cond-elim Fine (eqb (kindOf h i) 2 && ltb 0 (r .extra))
+      (λ more. taken more)
+      (λ none. idled-fine r f (spent none) (λ k l. not-so low (and-intro (eq-eqb _ _ k) l))))
+    where
+      taken : So (eqb (kindOf h i) 2 && ltb 0 (r .extra)) → Fine (raised clock (edgeTaken r))
+      taken more = unfold edgeTaken in raised-fine r (edgeTaken r) f (omega (arith, f .extra))
+          (λ ne. absurd (ne (eqb-true _ _ (and-left (eqb (kindOf h i) 2) _ more)))) (closed-waits r f)
+
+      spent : (eqb (kindOf h i) 2 && ltb 0 (r .extra)) ≡ false → r .extra ≡ 0
+      spent none = ⊎-elim
+          (λ two. ⊎-elim (λ (t : So (ltb 0 (r .extra))). absurd (not-so none (and-intro two t)))
+          (λ t. omega (arith, ltb-false 0 (r .extra) t)) (dichotomy (ltb 0 (r .extra))))
+          (λ other. f .counting (eqb-false _ _ other))
+          (dichotomy (eqb (kindOf h i) 2))

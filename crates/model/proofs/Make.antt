@@ -1,0 +1,187 @@
+-- Making: an accepted shape gives a sound, fresh state; any other a state that is zero throughout.
+-- Assumes nothing.
+use mathlib.Core.Path.{_≡_, _∙_, refl, sym, ap, subst}
+use mathlib.Core.Bool.{Bool, true, false, not, cond, _&&_, So}
+use mathlib.Core.Logic.{_⊎_, ⊎-elim, _≢_}
+use mathlib.Core.List.{List, [], _∷_, _++_}
+use Prim.Native.Nat.{ℕ, zero, suc, _+_, _-_, _*_, _^_, _≤_, _<_}
+use native.Mathlib.Omega.{arith}
+use lib.Dec.{leb, ltb, eqb}
+use lib.ListN.{length, getD, replicate, length-replicate, getD-replicate, length-append, List·getD-append}
+use lib.Seq.{getD-append-add}
+use lib.Pow.{pow-pos}
+use borrow.Author.Tests.{leb-true, eqb-true, eqb-false, eq-eqb, not-false, not-true, ltb-true, ltb-false}
+use Rattle.laws.specs.Fold.{sumTo, allTo}
+use Rattle.laws.specs.Bits.{bit}
+use Rattle.laws.proofs.Truth.{dichotomy, not-so, so-not, and-left, and-right, cond-so, cond-not, cond-elim}
+use Rattle.laws.proofs.Fold.{all-at, sum-zero}
+use Rattle.laws.proofs.Bits.{bit-above}
+use Rattle.model.specs.declared.Shape.{Shape}
+use Rattle.model.specs.declared.State.{State}
+use Rattle.model.specs.Board.{Request, request, priority, threshold, enableWord, withinLimits, kindsFor, isSource, isContext, kindOf, zeroShape, zeroState, freshIn, shapeOf}
+use Rattle.model.specs.Refusals.{firstOf}
+use Rattle.model.specs.Waits.{isPending, isIdle, openAge, boardClaims, boardWaited, bucketClaims, bucketTicks}
+use Rattle.model.specs.Sound.{WithinLimits, AllZero, SoundSource, SoundContext, Sound}
+use Rattle.model.specs.Calls.{badShape, make}
+use Rattle.model.proofs.Sound.{limits-facts}
+use Rattle.model.proofs.Claim.{range-source}
+
+-- a request of which nothing has been heard
+zeroRequest : Request
+zeroRequest = record { stage = 0; line = false; extra = 0; start = 0; claims = 0; waited = 0 }
+
+module _ (n c b : ℕ) (kinds : List ℕ) (limits : WithinLimits n c b) (long : length kinds ≡ n)
+    (right : (i : ℕ) → i < length kinds → getD kinds i 0 ≤ 2) where
+  h : Shape
+  h = shapeOf n c b kinds
+
+  kind-of : (i : ℕ) → i < 128 → (kindOf h i ≤ 2) × (isSource h i ≡ false → kindOf h i ≡ 0)
+  unfolding h kindOf shapeOf
+  kind-of zero l = (omega arith, λ _. refl)
+  kind-of (suc i) l = ⊎-elim
+      (λ (t : So (ltb i n)).
+      let inside : i < length kinds = omega (arith, ltb-true i n t) in
+      let kind-is : getD (kinds ++ replicate (127 - length kinds) 0) i 0 ≡ getD kinds i 0 = List·getD-append kinds _ 0 i inside in (
+        omega (arith, kind-is, right i inside),
+        λ e. absurd (not-so e (range-source h (suc i) (omega arith) (omega (arith, ltb-true i n t)))),
+      ))
+      (λ t.
+      let zero-is : getD (kinds ++ replicate (127 - length kinds) 0) i 0 ≡ 0 = past i l (ltb-false i n t) in
+      (omega (arith, zero-is), λ _. zero-is))
+      (dichotomy (ltb i n))
+    where
+      past : (i : ℕ) → suc i < 128 → n ≤ i → getD (kinds ++ replicate (127 - length kinds) 0) i 0 ≡ 0
+      past i l k =
+          let place : i ≡ length kinds + (i - n) = omega arith in
+          ap (λ (j : ℕ). getD (kinds ++ replicate (127 - length kinds) 0) j 0) place
+          ∙ getD-append-add kinds (replicate (127 - length kinds) 0) (i - n) 0
+          ∙ getD-replicate (127 - length kinds) (i - n) 0 0 (omega arith)
+
+  kind-length : length (h .kind) ≡ 128
+  unfolding h shapeOf
+  kind-length = omega (arith, length-append kinds (replicate (127 - length kinds) 0), length-replicate {A = ℕ} (127 - length kinds) 0, limits .sources .1)
+
+  fresh-request : (i : ℕ) → i < 128 → request (freshIn h .requests) i ≡ zeroRequest
+  unfolding request freshIn zeroRequest
+  fresh-request i l = λ k. record {
+    stage = getD-replicate 128 i 0 0 l k;
+    line = getD-replicate 128 i false false l k;
+    extra = getD-replicate 128 i 0 0 l k;
+    start = getD-replicate 128 i 0 0 l k;
+    claims = getD-replicate 128 i 0 0 l k;
+    waited = getD-replicate 128 i 0 0 l k;
+  }
+
+  zero-fine : (i prio : ℕ) → i < 128 → prio ≡ 0 → SoundSource h 0 i prio zeroRequest
+  unfolding zeroRequest isPending isIdle openAge
+  zero-fine i prio l p = record {
+    kind = kind-of i l .0;
+    absent = λ e. record {
+      kind = kind-of i l .1 e;
+      priority = p;
+      stage = refl;
+      line = refl;
+      extra = refl;
+      start = refl;
+      claims = refl;
+      waited = refl;
+    };
+    priorities = omega arith;
+    stage = omega arith;
+    start = omega arith;
+    startless = λ _. refl;
+    extra = omega arith;
+    counting = λ _. refl;
+    edgeless = λ _. refl;
+    level = λ _ _ t. not-so refl t;
+    waits = omega arith;
+  }
+
+  zero-context : (d : ℕ) → d < 8 → SoundContext h (freshIn h .settings) d
+  unfolding freshIn threshold enableWord
+  zero-context d l = record {
+    absentThreshold = λ _. getD-replicate 8 d 0 0 l;
+    absentEnables = λ _ w k. getD-replicate 32 (d * 4 + w) 0 0 (omega arith);
+    thresholds = omega (arith, getD-replicate {A = ℕ} 8 d 0 0 l);
+    enables = λ w j k t. absurd (not-so (bit-above 0 0 j (omega arith) (omega arith))
+        (subst (λ (x : ℕ). So (bit x j)) (getD-replicate 32 (d * 4 + w) 0 0 (omega arith)) t));
+  }
+
+  fresh-sound : Sound (freshIn h)
+  unfolding freshIn
+  fresh-sound = record {
+    types = record {
+      kind = kind-length;
+      priority = length-replicate {A = ℕ} 128 0;
+      enable = length-replicate {A = ℕ} 32 0;
+      threshold = length-replicate {A = ℕ} 8 0;
+      requests = record {
+        stage = length-replicate {A = ℕ} 128 0;
+        line = length-replicate {A = Bool} 128 false;
+        extra = length-replicate {A = ℕ} 128 0;
+        start = length-replicate {A = ℕ} 128 0;
+        claims = length-replicate {A = ℕ} 128 0;
+        waited = length-replicate {A = ℕ} 128 0;
+      };
+      bucketClaims = length-replicate {A = ℕ} 33 0;
+      bucketTicks = length-replicate {A = ℕ} 33 0;
+      clock = omega arith;
+      steps = omega arith;
+    };
+    limits = unfold h shapeOf in limits;
+    source = λ i l. subst (SoundSource h 0 i (priority (freshIn h .settings) i)) (sym (fresh-request i l))
+        (zero-fine i (priority (freshIn h .settings) i) l (unfold priority in getD-replicate 128 i 0 0 l));
+    context = zero-context;
+    claims = omega (arith, no-claims);
+    claimsBooked = no-claims ∙ sym (sum-zero (bucketClaims (freshIn h .buckets)) 33 (λ k l. unfold bucketClaims in getD-replicate 33 k 0 0 l));
+    ticksBooked = no-ticks ∙ sym (sum-zero (bucketTicks (freshIn h .buckets)) 33 (λ k l. unfold bucketTicks in getD-replicate 33 k 0 0 l));
+  }
+    where
+      no-claims : boardClaims (freshIn h .requests) ≡ 0
+      no-claims = unfold boardClaims zeroRequest in sum-zero _ 128 (λ i l. ap (λ (r : Request). r .claims) (fresh-request i l))
+
+      no-ticks : boardWaited (freshIn h .requests) ≡ 0
+      no-ticks = unfold boardWaited zeroRequest in sum-zero _ 128 (λ i l. ap (λ (r : Request). r .waited) (fresh-request i l))
+
+-- the cases of making
+
+made-when : (n c b : ℕ) (kinds : List ℕ) → So (withinLimits n c b && kindsFor n kinds) →
+    (make n c b kinds .number ≡ 0) × (make n c b kinds .state ≡ freshIn (shapeOf n c b kinds))
+unfolding make firstOf badShape
+made-when n c b kinds t = (
+  ap (λ (g : Bool). cond (not g) 1 0) t,
+  ap (λ (g : Bool). cond (eqb (cond (not g) 1 0) 0) (freshIn (shapeOf n c b kinds)) zeroState) t,
+)
+
+unmade-when : (n c b : ℕ) (kinds : List ℕ) → (withinLimits n c b && kindsFor n kinds) ≡ false →
+    (make n c b kinds .number ≡ 1) × (make n c b kinds .state ≡ zeroState)
+unfolding make firstOf badShape
+unmade-when n c b kinds t = (
+  ap (λ (g : Bool). cond (not g) 1 0) t,
+  ap (λ (g : Bool). cond (eqb (cond (not g) 1 0) 0) (freshIn (shapeOf n c b kinds)) zeroState) t,
+)
+
+-- making an accepted shape gives a sound state, all of it zero but the shape
+pub made-sound : (n c b : ℕ) (kinds : List ℕ) → make n c b kinds .number ≡ 0 →
+    (make n c b kinds .state ≡ freshIn (shapeOf n c b kinds)) × Sound (make n c b kinds .state)
+unfolding kindsFor
+made-sound n c b kinds e = ⊎-elim
+    (λ t.
+    let made = made-when n c b kinds t .1 in
+    let kinds-right = and-right (withinLimits n c b) (kindsFor n kinds) t in (
+      made,
+      subst Sound (sym made) (unfold h in fresh-sound n c b kinds
+          (limits-facts n c b (and-left (withinLimits n c b) (kindsFor n kinds) t))
+          (eqb-true (length kinds) n (and-left (eqb (length kinds) n) _ kinds-right))
+          (λ i l. leb-true (getD kinds i 0) 2 (all-at _ (length kinds) (and-right (eqb (length kinds) n) _ kinds-right) i l))),
+    ))
+    (λ t. absurd (omega (arith, e, unmade-when n c b kinds t .0)))
+    (dichotomy (withinLimits n c b && kindsFor n kinds))
+
+-- "1 returns a state that is zero throughout"
+pub unmade-zero : (n c b : ℕ) (kinds : List ℕ) → make n c b kinds .number ≢ 0 →
+    (make n c b kinds .number ≡ 1) × (make n c b kinds .state ≡ zeroState)
+unmade-zero n c b kinds ne = ⊎-elim
+    (λ t. absurd (ne (made-when n c b kinds t .0)))
+    (unmade-when n c b kinds)
+    (dichotomy (withinLimits n c b && kindsFor n kinds))
