@@ -8,3 +8,4 @@ pub mod Change
 pub mod Steps
 pub mod Calls
 pub mod Make
+pub mod Refusals
