@@ -7,7 +7,7 @@ use mathlib.Core.List.{List}
 use Prim.Native.Nat.{ℕ, zero, suc, _+_, _≤_, _<_}
 use native.Mathlib.Omega.{arith}
 use lib.ListN.{length, getD, set, length-set}
-use lib.Seq.{getD-set-same, getD-set-other}
+use lib.Seq.{getD-set-same, getD-set-other, set-getD}
 use Rattle.laws.specs.Fold.{sumTo}
 use Rattle.laws.proofs.Fold.{sum-change}
 use Rattle.model.specs.declared.Requests.{Requests}
@@ -55,6 +55,18 @@ module _ (q : Requests) (i : ℕ) (r : Request) where
     request-sum f h =
         sum-change (λ j. f (request q j)) (λ j. f (request (setRequest q i r) j)) 128 i h (λ j ne. sym (ap f (request-other j ne)))
         ∙ ap (λ (x : ℕ). sumTo (λ j. f (request q j)) 128 + x) (ap f (request-same h))
+
+-- putting back what was read changes nothing
+pub request-back : (q : Requests) (i : ℕ) → setRequest q i (request q i) ≡ q
+unfolding request setRequest
+request-back q i = λ k. record {
+  stage = set-getD (q .stage) i 0 k;
+  line = set-getD (q .line) i false k;
+  extra = set-getD (q .extra) i 0 k;
+  start = set-getD (q .start) i 0 k;
+  claims = set-getD (q .claims) i 0 k;
+  waited = set-getD (q .waited) i 0 k;
+}
 
 -- a sum over a list changes by as much as the element does
 pub list-sum : (l : List ℕ) (n i x : ℕ) → i < n → i < length l →

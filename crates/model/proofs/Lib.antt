@@ -9,3 +9,4 @@ pub mod Steps
 pub mod Calls
 pub mod Make
 pub mod Refusals
+pub mod Reports

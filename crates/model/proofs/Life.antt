@@ -1,18 +1,32 @@
 -- Each change in the life of a request keeps its source sound.
 -- Assumes nothing.
 use mathlib.Core.Path.{_≡_, _∙_, refl, sym, ap, subst}
-use mathlib.Core.Bool.{Bool, true, false, not, cond, _&&_, So}
-use mathlib.Core.Logic.{_⊎_, ⊎-elim, _≢_}
+use mathlib.Core.Bool.{Bool, true, false, not, cond, _&&_, So, not-and-self}
+use mathlib.Core.Logic.{_⊎_, ⊎-elim, _≢_, _↔_}
 use Prim.Native.Nat.{ℕ, zero, suc, _+_, _-_, _^_, _≤_, _<_}
 use native.Mathlib.Omega.{arith}
 use lib.Dec.{leb, ltb, eqb}
 use borrow.Author.Tests.{leb-true, ltb-true, ltb-false, eqb-true, eqb-false, eq-eqb, ne-eqb}
+use Rattle.laws.specs.Fold.{allOf}
+use Rattle.laws.proofs.Fold.{test-at}
 use Rattle.laws.proofs.Truth.{dichotomy, not-so, and-intro, and-left, and-right, cond-so, cond-not, cond-elim}
+use mathlib.Core.List.{[], _∷_}
 use Rattle.model.specs.declared.Shape.{Shape}
-use Rattle.model.specs.Board.{Request, isSource, kindOf}
+use Rattle.model.specs.declared.Requests.{Requests}
+use Rattle.model.specs.declared.State.{State}
+use Rattle.model.specs.Board.{Request, request, setRequest, isSource, kindOf, priority, withRequest}
 use Rattle.model.specs.Waits.{isIdle, isPending, isInService, openAge, wait}
-use Rattle.model.specs.Life.{lineAt, raised, edgeCounted, levelChanged, edgeChanged, lineChanged, served, idled, edgeTaken, completed}
-use Rattle.model.specs.Sound.{AllZero, SoundSource}
+use Rattle.model.specs.Life.{lineAt, raised, edgeCounted, levelChanged, edgeChanged, lineChanged, lineChange, served, takesEffect, TakesEffect, idled, edgeTaken, completed}
+use Rattle.model.specs.Sound.{SoundSource, Sound}
+use Rattle.model.proofs.Board.{request-back}
+
+-- "It takes effect exactly if v is in 1..N, enabled in c now, and in service."
+pub takes-effect-iff : (s : State) (c v : ℕ) → So (takesEffect s c v) ↔ TakesEffect s c v
+unfolding takesEffect
+takes-effect-iff s c v = (
+  (λ t. record { source = test-at _ t 0; enable = test-at _ t 1; service = test-at _ t 2 }),
+  (λ f. unfold allOf in and-intro (f .source) (and-intro (f .enable) (and-intro (f .service) refl))),
+)
 
 module _ (h : Shape) (clock i prio : ℕ) (source : So (isSource h i)) where
   abbrev Fine : Request → Type 0
@@ -153,3 +167,28 @@ module _ (h : Shape) (clock i prio : ℕ) (source : So (isSource h i)) where
           (λ t. omega (arith, ltb-false 0 (r .extra) t)) (dichotomy (ltb 0 (r .extra))))
           (λ other. f .counting (eqb-false _ _ other))
           (dichotomy (eqb (kindOf h i) 2))
+
+-- "Repeating the present level has no effect"
+repeated : (h : Shape) (clock i prio : ℕ) (r : Request) → SoundSource h clock i prio r → lineChanged (kindOf h i) clock (r .line) r ≡ r
+unfolding lineChanged levelChanged edgeChanged lineAt
+repeated h clock i prio r f =
+    cond-elim (λ k. k ≡ r) (eqb (kindOf h i) 0)
+    (λ level. cond-elim (λ k. k ≡ r) (isIdle r && r .line)
+    (λ t. absurd (f .level (eqb-true _ _ level) (and-left (isIdle r) _ t) (and-right (isIdle r) _ t)))
+    (λ _. refl))
+    (λ _. cond-elim (λ k. k ≡ r) (not (r .line) && r .line) (λ t. absurd (not-so (not-and-self (r .line)) t)) (λ _. refl))
+
+pub repeat-level : (s : State) → Sound s → (i : ℕ) → i < 128 → lineChange s i (request (s .requests) i .line) ≡ s
+unfolding lineChange withRequest
+repeat-level s f i h =
+    ap (λ (q : Requests). record {
+      shape = s .shape;
+      clock = s .clock;
+      steps = s .steps;
+      settings = s .settings;
+      requests = q;
+      buckets = s .buckets;
+    })
+    (ap (setRequest (s .requests) i)
+    (repeated (s .shape) (s .clock) i (priority (s .settings) i) (request (s .requests) i) (f .source i h))
+    ∙ request-back (s .requests) i)

@@ -24,7 +24,7 @@ use Rattle.model.proofs.Claim.{source-range, winner-is}
 use Rattle.model.proofs.Waits.{bucket-holds}
 use Rattle.model.proofs.Registers.{word-range, is-named}
 use Rattle.model.proofs.Board.{request-sum, list-sum}
-use Rattle.model.proofs.Life.{line-kept, served-kept, completed-kept}
+use Rattle.model.proofs.Life.{line-kept, served-kept, takes-effect-iff, completed-kept}
 use Rattle.model.proofs.Change.{sound-steps, sound-clock, sound-request, sound-priority, sound-threshold, sound-enable}
 
 -- a change of a request that books nothing
@@ -82,11 +82,11 @@ module _ (s : State) (f : Sound s) (room : s .steps < 4294967295) where
       (line-unbooked kind (s .clock) v r)
 
   pub complete-step : (c v : ℕ) → Sound (withSteps (completeBy s c v) (s .steps + 1))
-  unfolding completeBy takesEffect
+  unfolding completeBy
   complete-step c v = cond-elim (λ (k : State). Sound (withSteps k (s .steps + 1))) (takesEffect s c v)
       (λ t.
       let r = request (s .requests) v in
-      let source = and-left (isSource (s .shape) v) _ (and-left _ (isInService r) t) in
+      let source = takes-effect-iff s c v .0 t .source in
       unbooked-kept v (completed (kindOf (s .shape) v) (s .clock) r) source
       (completed-kept (s .shape) (s .clock) v (priority (s .settings) v) source r (f .source v (below v source)))
       (completed-unbooked (kindOf (s .shape) v) (s .clock) r))

@@ -103,7 +103,12 @@ claimBy s c = cond (eqb (winner s c) 0) s (claimOf s (winner s c))
 
 -- "Completion by c with value v (all 32 bits). It takes effect exactly if v is in 1..N, enabled in c now, and in service."
 unfoldable pub takesEffect : State → ℕ → ℕ → Bool
-takesEffect s c v = isSource (s .shape) v && enabled (s .settings) c v && isInService (request (s .requests) v)
+takesEffect s c v = allOf (isSource (s .shape) v ∷ enabled (s .settings) c v ∷ isInService (request (s .requests) v) ∷ [])
+
+pub record TakesEffect (s : State) (c v : ℕ) : Type 0 where
+  pub source : So (isSource (s .shape) v)
+  pub enable : So (enabled (s .settings) c v)
+  pub service : So (isInService (request (s .requests) v))
 
 -- "Taking effect, the source is idle; then a level source with high line, or a counting source with extra edges (one fewer
 -- afterwards), is pending again in the same step."

@@ -2,7 +2,7 @@
 -- Assumes nothing.
 use mathlib.Core.Bool.{Bool, cond}
 use mathlib.Core.List.{List, [], _∷_}
-use Prim.Native.Nat.{ℕ, zero, suc, _+_, _-_, _*_, _^_, _≤_}
+use Prim.Native.Nat.{ℕ, zero, suc, _+_, _-_, _*_, _^_, _≤_, _<_}
 use lib.Dec.{leb, ltb, eqb}
 use lib.ListN.{getD, set}
 use Rattle.laws.specs.Fold.{sumTo, firstTo}
@@ -83,3 +83,9 @@ reaches counts p k = leb (p * sumTo counts 33) (sumTo counts (suc k) * 1000)
 
 unfoldable pub percentile : (ℕ → ℕ) → ℕ → ℕ
 percentile counts p = upperEnd (firstTo (reaches counts p) 33)
+
+-- what makes k the bucket whose upper end is given
+pub record Percentile (counts : ℕ → ℕ) (p k : ℕ) : Type 0 where
+  pub exists : k ≤ 32
+  pub reached : p * sumTo counts 33 ≤ sumTo counts (suc k) * 1000
+  pub lowest : (j : ℕ) → j < k → sumTo counts (suc j) * 1000 < p * sumTo counts 33

@@ -1,0 +1,41 @@
+-- The percentile report gives the upper end of the lowest bucket that reaches the share asked for.
+-- Assumes nothing.
+use mathlib.Core.Path.{_≡_, refl}
+use mathlib.Core.Bool.{So}
+use mathlib.Core.Logic.{⊎-elim}
+use Prim.Native.Nat.{ℕ, suc, _*_, _≤_, _<_}
+use native.Mathlib.Nat.{mul-le-mul-left, mul-comm}
+use native.Mathlib.Omega.{arith}
+use lib.Dec.{leb, ltb}
+use borrow.Author.Tests.{leb-true, leb-false, le-leb, ltb-true, ltb-false}
+use Rattle.laws.specs.Fold.{sumTo, firstTo, First}
+use Rattle.laws.proofs.Truth.{dichotomy, so-not}
+use Rattle.laws.proofs.Fold.{first-is}
+use Rattle.model.specs.Waits.{upperEnd, reaches, percentile, Percentile}
+
+module _ (counts : ℕ → ℕ) (p : ℕ) (most : p ≤ 1000) where
+  -- all of it is reached in the last bucket
+  last-reaches : So (reaches counts p 32)
+  unfolding reaches
+  last-reaches = le-leb (p * sumTo counts 33) (sumTo counts 33 * 1000)
+      (omega (arith, mul-le-mul-left (sumTo counts 33) most))
+
+  first-percentile : (k : ℕ) → First (reaches counts p) 33 k → Percentile counts p k
+  unfolding reaches
+  first-percentile k f = record {
+    exists = omega (arith, below);
+    reached = leb-true (p * sumTo counts 33) (sumTo counts (suc k) * 1000) (f .found below);
+    lowest = λ j h. leb-false (p * sumTo counts 33) (sumTo counts (suc j) * 1000) (so-not _ (f .before j h));
+  }
+    where
+      below : k < 33
+      below = ⊎-elim
+          (λ (t : So (ltb k 33)). ltb-true k 33 t)
+          (λ t. absurd (f .before 32 (omega (arith, ltb-false k 33 t)) last-reaches))
+          (dichotomy (ltb k 33))
+
+  pub percentile-is : (k : ℕ) × Percentile counts p k × (percentile counts p ≡ upperEnd k)
+  unfolding percentile
+  percentile-is =
+      let k = firstTo (reaches counts p) 33 in
+      (k, first-percentile k (first-is (reaches counts p) 33), refl)
