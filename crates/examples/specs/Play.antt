@@ -10,17 +10,17 @@ use Rattle.laws.specs.Fold.{sumTo, allTo, allOf, anyTo, firstTo, best}
 use Rattle.laws.specs.Bits.{bit, packed}
 use Rattle.model.specs.declared.Buckets.{Buckets}
 use Rattle.model.specs.declared.State.{State}
-use Rattle.model.specs.Board.{withinLimits, kindsFor, isSource, isContext, isWord, kindOf, freshIn, zeroState, zeroShape, shapeOf, request, setRequest, priority, threshold, enableWord, enabled, withClock, withSteps, withSettings, withRequest, withBuckets}
+use Rattle.model.specs.Board.{withinLimits, kindsFor, isSource, isContext, isWord, kindOf, freshIn, zeroState, zeroShape, shapeOf, request, setRequest, priority, threshold, enableWord, enabled, withClock, withSteps, withSettings, withRequest, withCounts}
 use Rattle.model.specs.Refusals.{Outcome, Ground, firstOf}
-use Rattle.model.specs.Waits.{isIdle, isPending, isInService, wait, openAge, upperEnds, upperEnd, bucketOf, booked, bucketClaims, bucketTicks, boardClaims, boardWaited, boardOpen, reaches, percentile}
+use Rattle.model.specs.Waits.{isIdle, isPending, isInService, wait, openAge, upperEnds, upperEnd, bucketOf, counted, booked, sourceClaims, sourceWaited, bucketClaims, bucketTicks, boardClaims, boardWaited, boardOpen, reaches, percentile}
 use Rattle.model.specs.Life.{lineAt, raised, edgeCounted, levelChanged, edgeChanged, lineChanged, lineChange, advanced, pendingFor, eligible, rank, winner, served, claimOf, claimBy, takesEffect, idled, edgeTaken, completed, completeBy, rouses, notified}
 use Rattle.model.specs.Registers.{priorityAt, pendingAt, enableAt, pageAt, decode, pendingWord, kept, readOf, afterRead, withPriority, withEnable, withThreshold, afterWrite}
-use Rattle.model.specs.Sound.{typed, allZero, soundSource, soundContext, sound}
+use Rattle.model.specs.Sound.{typed, allZero, soundSource, soundSourceAt, soundContext, sound}
 use Rattle.model.specs.Calls.{Call, line, advance, read, write, notification, mean, byClaim, byTime, totals, isStep, notSound, noStepLeft, offsetAbove, offsetUnaligned, noSuchSource, noSuchContext, clockPast, perMilleOutside, nothingToDivide, grounds, valuesOf, effect, after, respond, badShape, make}
 
 -- "N = 3, C = 2, b = 3 unless said": source 1 is a level source, 2 an edge that drops extra edges, 3 one that counts them
 unfoldable pub board : State
-unfolding sumTo allTo allOf anyTo firstTo best bit packed withinLimits kindsFor isSource isContext isWord kindOf freshIn zeroState zeroShape shapeOf request setRequest priority threshold enableWord enabled withClock withSteps withSettings withRequest withBuckets firstOf isIdle isPending isInService wait openAge upperEnds upperEnd bucketOf booked bucketClaims bucketTicks boardClaims boardWaited boardOpen reaches percentile lineAt raised edgeCounted levelChanged edgeChanged lineChanged lineChange advanced pendingFor eligible rank winner served claimOf claimBy takesEffect idled edgeTaken completed completeBy rouses notified priorityAt pendingAt enableAt pageAt decode pendingWord kept readOf afterRead withPriority withEnable withThreshold afterWrite typed allZero soundSource soundContext sound isStep notSound noStepLeft offsetAbove offsetUnaligned noSuchSource noSuchContext clockPast perMilleOutside nothingToDivide grounds valuesOf effect after respond badShape make
+unfolding sumTo allTo allOf anyTo firstTo best bit packed withinLimits kindsFor isSource isContext isWord kindOf freshIn zeroState zeroShape shapeOf request setRequest priority threshold enableWord enabled withClock withSteps withSettings withRequest withCounts firstOf isIdle isPending isInService wait openAge upperEnds upperEnd bucketOf counted booked sourceClaims sourceWaited bucketClaims bucketTicks boardClaims boardWaited boardOpen reaches percentile lineAt raised edgeCounted levelChanged edgeChanged lineChanged lineChange advanced pendingFor eligible rank winner served claimOf claimBy takesEffect idled edgeTaken completed completeBy rouses notified priorityAt pendingAt enableAt pageAt decode pendingWord kept readOf afterRead withPriority withEnable withThreshold afterWrite typed allZero soundSource soundSourceAt soundContext sound isStep notSound noStepLeft offsetAbove offsetUnaligned noSuchSource noSuchContext clockPast perMilleOutside nothingToDivide grounds valuesOf effect after respond badShape make
 board = make 3 2 3 (0 ∷ 1 ∷ 2 ∷ []) .state
 
 -- the board after accepted calls

@@ -22,8 +22,6 @@ module _ (q : Requests) (i : ℕ) (r : Request) where
     line = getD-set-other (q .line) i j (r .line) false ne k;
     extra = getD-set-other (q .extra) i j (r .extra) 0 ne k;
     start = getD-set-other (q .start) i j (r .start) 0 ne k;
-    claims = getD-set-other (q .claims) i j (r .claims) 0 ne k;
-    waited = getD-set-other (q .waited) i j (r .waited) 0 ne k;
   }
 
   module _ (room : Roomy q) where
@@ -34,8 +32,6 @@ module _ (q : Requests) (i : ℕ) (r : Request) where
       line = length-set (q .line) i (r .line) ∙ room .line;
       extra = length-set (q .extra) i (r .extra) ∙ room .extra;
       start = length-set (q .start) i (r .start) ∙ room .start;
-      claims = length-set (q .claims) i (r .claims) ∙ room .claims;
-      waited = length-set (q .waited) i (r .waited) ∙ room .waited;
     }
 
     pub request-same : i < 128 → request (setRequest q i r) i ≡ r
@@ -45,8 +41,6 @@ module _ (q : Requests) (i : ℕ) (r : Request) where
       line = getD-set-same (q .line) i (r .line) false (omega (arith, room .line)) k;
       extra = getD-set-same (q .extra) i (r .extra) 0 (omega (arith, room .extra)) k;
       start = getD-set-same (q .start) i (r .start) 0 (omega (arith, room .start)) k;
-      claims = getD-set-same (q .claims) i (r .claims) 0 (omega (arith, room .claims)) k;
-      waited = getD-set-same (q .waited) i (r .waited) 0 (omega (arith, room .waited)) k;
     }
 
     -- a sum over all sources changes by as much as the one does
@@ -64,13 +58,4 @@ request-back q i = λ k. record {
   line = set-getD (q .line) i false k;
   extra = set-getD (q .extra) i 0 k;
   start = set-getD (q .start) i 0 k;
-  claims = set-getD (q .claims) i 0 k;
-  waited = set-getD (q .waited) i 0 k;
 }
-
--- a sum over a list changes by as much as the element does
-pub list-sum : (l : List ℕ) (n i x : ℕ) → i < n → i < length l →
-    sumTo (λ k. getD (set l i x) k 0) n + getD l i 0 ≡ sumTo (λ k. getD l k 0) n + x
-list-sum l n i x h k =
-    sum-change (λ j. getD l j 0) (λ j. getD (set l i x) j 0) n i h (λ j ne. sym (getD-set-other l i j x 0 ne))
-    ∙ ap (λ (y : ℕ). sumTo (λ j. getD l j 0) n + y) (getD-set-same l i x 0 k)

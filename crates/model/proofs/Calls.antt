@@ -14,7 +14,7 @@ use borrow.Author.Tests.{ltb-true, ltb-false, leb-true, leb-false, eqb-true, eqb
 use Rattle.laws.proofs.Truth.{dichotomy, not-so, so-not, and-left, and-right, cond-so, cond-not, cond-elim}
 use Rattle.model.specs.declared.State.{State}
 use Rattle.model.specs.declared.Register.{Register}
-use Rattle.model.specs.Board.{isSource, isContext, withSteps, withClock, withRequest, withBuckets, withSettings}
+use Rattle.model.specs.Board.{isSource, isContext, withSteps, withClock, withRequest, withCounts, withSettings}
 use Rattle.model.specs.Refusals.{Outcome, Ground, firstOf, Concerns, Smallest}
 use Rattle.model.specs.Registers.{decode}
 use Rattle.model.specs.Sound.{sound, Sound}
@@ -122,11 +122,11 @@ module _ (s : State) where
       advance-step s (was-sound (advance n) s e first) (had-room (advance n) s e second) n
       (unfold clockPast in ltb-false 4294967295 (s .clock + n) (none-holds (advance n) s e (clockPast s n) (List·Memᴰ·tail second)))
   after-sound (read off) e =
-      read-step s (was-sound (read off) s e first) (had-room (read off) s e second) (decode (s .shape) off)
+      read-step s (was-sound (read off) s e first) (had-room (read off) s e second) (decode (s .shape .sources) (s .shape .contexts) off)
   after-sound (write off v) e =
       let sound-was = was-sound (write off v) s e first in
-      write-step s sound-was (had-room (write off v) s e second) off (decode (s .shape) off) v
-      (λ ne. decode-iff (s .shape) off (sound-was .limits) (aligned off v e) (decode (s .shape) off) ne .0 refl)
+      write-step s sound-was (had-room (write off v) s e second) off (decode (s .shape .sources) (s .shape .contexts) off) v
+      (λ ne. decode-iff (s .shape .sources) (s .shape .contexts) off (sound-was .limits .sources .1, sound-was .limits .contexts .1) (aligned off v e) (decode (s .shape .sources) (s .shape .contexts) off) ne .0 refl)
   after-sound (notification c) e = was-sound (notification c) s e first
   after-sound mean e = was-sound mean s e first
   after-sound (byClaim p) e = was-sound (byClaim p) s e first

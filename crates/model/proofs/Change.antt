@@ -1,6 +1,6 @@
 -- A sound state in which one group of fields has changed is sound again: the clock, the step count, a setting, a request.
 -- Assumes nothing.
-use mathlib.Core.Path.{_≡_, _∙_, refl, sym, ap, subst}
+use mathlib.Core.Path.{_≡_, _∙_, refl, sym, ap, subst, subst₃}
 use mathlib.Core.Bool.{Bool, true, false, not, cond, _&&_, So}
 use mathlib.Core.Logic.{_⊎_, ⊎-elim, _≢_}
 use mathlib.Core.List.{List}
@@ -18,10 +18,11 @@ use Rattle.laws.proofs.Truth.{dichotomy, not-so, and-right, cond-elim}
 use Rattle.model.specs.declared.Shape.{Shape}
 use Rattle.model.specs.declared.Settings.{Settings}
 use Rattle.model.specs.declared.Requests.{Requests}
+use Rattle.model.specs.declared.Counts.{Counts}
 use Rattle.model.specs.declared.Buckets.{Buckets}
 use Rattle.model.specs.declared.State.{State}
-use Rattle.model.specs.Board.{Request, request, setRequest, isSource, isContext, kindOf, priority, threshold, enableWord, withClock, withSteps, withSettings, withRequest, withBuckets}
-use Rattle.model.specs.Waits.{isPending, openAge, boardClaims, boardWaited, bucketClaims, bucketTicks}
+use Rattle.model.specs.Board.{Request, request, setRequest, isSource, isContext, kindOf, priority, threshold, enableWord, withClock, withSteps, withSettings, withRequest, withCounts}
+use Rattle.model.specs.Waits.{isPending, openAge, sourceClaims, sourceWaited, boardClaims, boardWaited, bucketClaims, bucketTicks}
 use Rattle.model.specs.Registers.{kept, withPriority, withEnable, withThreshold}
 use Rattle.model.specs.Sound.{Roomy, Typed, AllZero, SoundSource, SoundContext, Sound}
 use Rattle.model.proofs.Sound.{kept-bit, kept-above}
@@ -46,8 +47,9 @@ later-age clock n r = by-cases (isPending r)
     by-cases true = omega arith
     by-cases false = omega arith
 
-later-source : (h : Shape) (clock n i prio : ℕ) (r : Request) → SoundSource h clock i prio r → SoundSource h (clock + n) i prio r
-later-source h clock n i prio r f = record {
+later-source : (h : Shape) (clock n i prio claimed waited : ℕ) (r : Request) → SoundSource h clock i prio claimed waited r →
+    SoundSource h (clock + n) i prio claimed waited r
+later-source h clock n i prio claimed waited r f = record {
   kind = f .kind;
   absent = f .absent;
   priorities = f .priorities;
@@ -61,9 +63,9 @@ later-source h clock n i prio r f = record {
   waits = omega (arith, f .waits, later-age clock n r);
 }
 
-settled : (h : Shape) (clock i old new : ℕ) (r : Request) → SoundSource h clock i old r → new ≤ 2 ^ h .bits - 1 →
-    (isSource h i ≡ false → new ≡ 0) → SoundSource h clock i new r
-settled h clock i old new r f most none = record {
+settled : (h : Shape) (clock i old new claimed waited : ℕ) (r : Request) → SoundSource h clock i old claimed waited r → new ≤ 2 ^ h .bits - 1 →
+    (isSource (h .sources) i ≡ false → new ≡ 0) → SoundSource h clock i new claimed waited r
+settled h clock i old new claimed waited r f most none = record {
   kind = f .kind;
   absent = λ e.
       let z = f .absent e in
@@ -99,10 +101,10 @@ same-context h g k c t e f = record {
 }
 
 -- a kept word has the bits of sources alone
-kept-sources : (h : Shape) (w v j : ℕ) → So (bit (kept h w v) j) → (j < 32) × So (isSource h (w * 32 + j))
-kept-sources h w v j t = ⊎-elim
-    (λ l. (ltb-true j 32 l, and-right (bit v j) _ (sym (kept-bit h w v j (ltb-true j 32 l)) ∙ t)))
-    (λ l. absurd (not-so (kept-above h w v j (ltb-false j 32 l)) t))
+kept-sources : (n w v j : ℕ) → So (bit (kept n w v) j) → (j < 32) × So (isSource n (w * 32 + j))
+kept-sources n w v j t = ⊎-elim
+    (λ l. (ltb-true j 32 l, and-right (bit v j) _ (sym (kept-bit n w v j (ltb-true j 32 l)) ∙ t)))
+    (λ l. absurd (not-so (kept-above n w v j (ltb-false j 32 l)) t))
     (dichotomy (ltb j 32))
 
 module _ (s : State) (f : Sound s) where
@@ -116,6 +118,8 @@ module _ (s : State) (f : Sound s) where
       enable = f .types .enable;
       threshold = f .types .threshold;
       requests = f .types .requests;
+      claims = f .types .claims;
+      waited = f .types .waited;
       bucketClaims = f .types .bucketClaims;
       bucketTicks = f .types .bucketTicks;
       clock = f .types .clock;
@@ -139,13 +143,16 @@ module _ (s : State) (f : Sound s) where
       enable = f .types .enable;
       threshold = f .types .threshold;
       requests = f .types .requests;
+      claims = f .types .claims;
+      waited = f .types .waited;
       bucketClaims = f .types .bucketClaims;
       bucketTicks = f .types .bucketTicks;
       clock = most;
       steps = f .types .steps;
     };
     limits = f .limits;
-    source = λ i h. later-source (s .shape) (s .clock) n i (priority (s .settings) i) (request (s .requests) i) (f .source i h);
+    source = λ i h. later-source (s .shape) (s .clock) n i (priority (s .settings) i) (sourceClaims (s .counts) i) (sourceWaited (s .counts) i)
+        (request (s .requests) i) (f .source i h);
     context = f .context;
     claims = f .claims;
     claimsBooked = f .claimsBooked;
@@ -154,7 +161,7 @@ module _ (s : State) (f : Sound s) where
 
   -- other settings
   pub sound-settings : (g : Settings) → length (g .priority) ≡ 128 → length (g .enable) ≡ 32 → length (g .threshold) ≡ 8 →
-      ((i : ℕ) → i < 128 → (priority g i ≤ 2 ^ s .shape .bits - 1) × (isSource (s .shape) i ≡ false → priority g i ≡ 0)) →
+      ((i : ℕ) → i < 128 → (priority g i ≤ 2 ^ s .shape .bits - 1) × (isSource (s .shape .sources) i ≡ false → priority g i ≡ 0)) →
       ((c : ℕ) → c < 8 → SoundContext (s .shape) g c) → Sound (withSettings s g)
   unfolding withSettings
   sound-settings g a b d priorities context = record {
@@ -164,13 +171,16 @@ module _ (s : State) (f : Sound s) where
       enable = b;
       threshold = d;
       requests = f .types .requests;
+      claims = f .types .claims;
+      waited = f .types .waited;
       bucketClaims = f .types .bucketClaims;
       bucketTicks = f .types .bucketTicks;
       clock = f .types .clock;
       steps = f .types .steps;
     };
     limits = f .limits;
-    source = λ i h. settled (s .shape) (s .clock) i (priority (s .settings) i) (priority g i) (request (s .requests) i)
+    source = λ i h. settled (s .shape) (s .clock) i (priority (s .settings) i) (priority g i) (sourceClaims (s .counts) i)
+        (sourceWaited (s .counts) i) (request (s .requests) i)
         (f .source i h) (priorities i h .0) (priorities i h .1);
     context = context;
     claims = f .claims;
@@ -178,34 +188,36 @@ module _ (s : State) (f : Sound s) where
     ticksBooked = f .ticksBooked;
   }
 
-  -- one request, the buckets and the step count changed together
-  pub sound-request : (i : ℕ) (r : Request) (b : Buckets) (n : ℕ) → i < 128 →
-      SoundSource (s .shape) (s .clock) i (priority (s .settings) i) r →
-      length (b .claims) ≡ 33 → length (b .ticks) ≡ 33 → n ≤ 4294967295 →
-      boardClaims (setRequest (s .requests) i r) ≤ n →
-      boardClaims (setRequest (s .requests) i r) ≡ sumTo (bucketClaims b) 33 →
-      boardWaited (setRequest (s .requests) i r) ≡ sumTo (bucketTicks b) 33 →
-      Sound (withSteps (withBuckets (withRequest s i r) b) n)
-  unfolding withSteps withBuckets withRequest
-  sound-request i r b n below fine claims-long ticks-long most few claims ticks = record {
+  -- one source's request and counts, the buckets and the step count changed together
+  pub sound-request : (i : ℕ) (r : Request) (k : Counts) (b : Buckets) (n : ℕ) → i < 128 →
+      SoundSource (s .shape) (s .clock) i (priority (s .settings) i) (sourceClaims k i) (sourceWaited k i) r →
+      ((j : ℕ) → j ≢ i → (sourceClaims k j ≡ sourceClaims (s .counts) j) × (sourceWaited k j ≡ sourceWaited (s .counts) j)) →
+      (length (k .claims) ≡ 128) × (length (k .waited) ≡ 128) → (length (b .claims) ≡ 33) × (length (b .ticks) ≡ 33) →
+      n ≤ 4294967295 → boardClaims k ≤ n → boardClaims k ≡ sumTo (bucketClaims b) 33 → boardWaited k ≡ sumTo (bucketTicks b) 33 →
+      Sound (withSteps (withCounts (withRequest s i r) k b) n)
+  unfolding withSteps withCounts withRequest
+  sound-request i r k b n below fine others counts-long buckets-long most few claims ticks = record {
     types = record {
       kind = f .types .kind;
       priority = f .types .priority;
       enable = f .types .enable;
       threshold = f .types .threshold;
       requests = roomy-set (s .requests) i r (f .types .requests);
-      bucketClaims = claims-long;
-      bucketTicks = ticks-long;
+      claims = counts-long .0;
+      waited = counts-long .1;
+      bucketClaims = buckets-long .0;
+      bucketTicks = buckets-long .1;
       clock = f .types .clock;
       steps = most;
     };
     limits = f .limits;
     source = λ j h. same-or-other
-        (λ j. SoundSource (s .shape) (s .clock) j (priority (s .settings) j) (request (setRequest (s .requests) i r) j)) i j
-        (subst (SoundSource (s .shape) (s .clock) i (priority (s .settings) i))
+        (λ j. SoundSource (s .shape) (s .clock) j (priority (s .settings) j) (sourceClaims k j) (sourceWaited k j)
+        (request (setRequest (s .requests) i r) j)) i j
+        (subst (SoundSource (s .shape) (s .clock) i (priority (s .settings) i) (sourceClaims k i) (sourceWaited k i))
         (sym (request-same (s .requests) i r (f .types .requests) below)) fine)
-        (λ ne. subst (SoundSource (s .shape) (s .clock) j (priority (s .settings) j))
-        (sym (request-other (s .requests) i r j ne)) (f .source j h));
+        (λ ne. subst₃ (SoundSource (s .shape) (s .clock) j (priority (s .settings) j))
+        (sym (others j ne .0)) (sym (others j ne .1)) (sym (request-other (s .requests) i r j ne)) (f .source j h));
     context = f .context;
     claims = few;
     claimsBooked = claims;
@@ -214,11 +226,11 @@ module _ (s : State) (f : Sound s) where
 
   -- the three writes that keep something
 
-  pub sound-priority : (i v : ℕ) → So (isSource (s .shape) i) → Sound (withPriority s i v)
+  pub sound-priority : (i v : ℕ) → So (isSource (s .shape .sources) i) → Sound (withPriority s i v)
   unfolding withPriority
   sound-priority i v source = sound-settings changed
       (length-set (s .settings .priority) i kept-value ∙ f .types .priority) (f .types .enable) (f .types .threshold)
-      (λ j h. same-or-other (λ j. (priority changed j ≤ most) × (isSource (s .shape) j ≡ false → priority changed j ≡ 0)) i j
+      (λ j h. same-or-other (λ j. (priority changed j ≤ most) × (isSource (s .shape .sources) j ≡ false → priority changed j ≡ 0)) i j
       (subst (λ (x : ℕ). x ≤ most) (sym new) (reduced-le v (s .shape .bits)), λ e. absurd (not-so e source))
       (λ ne. (
         subst (λ (x : ℕ). x ≤ most) (sym (old j ne)) (f .source j h .priorities),
@@ -241,17 +253,17 @@ module _ (s : State) (f : Sound s) where
 
       new : priority changed i ≡ kept-value
       new = unfold priority in getD-set-same (s .settings .priority) i kept-value 0
-          (omega (arith, f .types .priority, source-range (s .shape) i source .1, f .limits .sources .1))
+          (omega (arith, f .types .priority, source-range (s .shape .sources) i source .1, f .limits .sources .1))
 
       old : (j : ℕ) → j ≢ i → priority changed j ≡ priority (s .settings) j
       old j ne = unfold priority in getD-set-other (s .settings .priority) i j kept-value 0 ne
 
   -- the priorities of a state as they stand
   as-they-stand : (i : ℕ) → i < 128 →
-      (priority (s .settings) i ≤ 2 ^ s .shape .bits - 1) × (isSource (s .shape) i ≡ false → priority (s .settings) i ≡ 0)
+      (priority (s .settings) i ≤ 2 ^ s .shape .bits - 1) × (isSource (s .shape .sources) i ≡ false → priority (s .settings) i ≡ 0)
   as-they-stand i h = (f .source i h .priorities, λ e. f .source i h .absent e .priority)
 
-  pub sound-threshold : (c v : ℕ) → So (isContext (s .shape) c) → Sound (withThreshold s c v)
+  pub sound-threshold : (c v : ℕ) → So (isContext (s .shape .contexts) c) → Sound (withThreshold s c v)
   unfolding withThreshold
   sound-threshold c v there = sound-settings changed
       (f .types .priority) (f .types .enable) (length-set (s .settings .threshold) c kept-value ∙ f .types .threshold)
@@ -262,7 +274,7 @@ module _ (s : State) (f : Sound s) where
       (f .context d h)))
     where
       inside : c < s .shape .contexts
-      inside = context-range (s .shape) c there
+      inside = context-range (s .shape .contexts) c there
 
       kept-value : ℕ
       kept-value = v % 2 ^ s .shape .bits
@@ -286,7 +298,7 @@ module _ (s : State) (f : Sound s) where
         enables = unfold enableWord in k .enables;
       }
 
-  pub sound-enable : (c w v : ℕ) → So (isContext (s .shape) c) → w < 4 → Sound (withEnable s c w v)
+  pub sound-enable : (c w v : ℕ) → So (isContext (s .shape .contexts) c) → w < 4 → Sound (withEnable s c w v)
   unfolding withEnable
   sound-enable c w v there small = sound-settings changed
       (f .types .priority) (length-set (s .settings .enable) (c * 4 + w) word ∙ f .types .enable) (f .types .threshold)
@@ -294,22 +306,22 @@ module _ (s : State) (f : Sound s) where
       (λ d h. record {
         absentThreshold = unfold threshold in f .context d h .absentThreshold;
         absentEnables = λ e x l.
-            old d x (λ same. not-so e (subst (λ (y : ℕ). So (isContext (s .shape) y)) (omega arith) there))
+            old d x (λ same. not-so e (subst (λ (y : ℕ). So (isContext (s .shape .contexts) y)) (omega arith) there))
             ∙ f .context d h .absentEnables e x l;
         thresholds = unfold threshold in f .context d h .thresholds;
         enables = λ x j l. ⊎-elim
             (λ (t : So (eqb (d * 4 + x) (c * 4 + w))).
             let same : d * 4 + x ≡ c * 4 + w = eqb-true (d * 4 + x) (c * 4 + w) t in
             let x-is : x ≡ w = omega arith in
-            λ set. subst (λ (y : ℕ). (j < 32) × So (isSource (s .shape) (y * 32 + j))) (sym x-is)
-            (kept-sources (s .shape) w v j (subst (λ (y : ℕ). So (bit y j)) (new d x same) set)))
+            λ set. subst (λ (y : ℕ). (j < 32) × So (isSource (s .shape .sources) (y * 32 + j))) (sym x-is)
+            (kept-sources (s .shape .sources) w v j (subst (λ (y : ℕ). So (bit y j)) (new d x same) set)))
             (λ t. λ set. f .context d h .enables x j l
             (subst (λ (y : ℕ). So (bit y j)) (old d x (eqb-false (d * 4 + x) (c * 4 + w) t)) set))
             (dichotomy (eqb (d * 4 + x) (c * 4 + w)));
       })
     where
       word : ℕ
-      word = kept (s .shape) w v
+      word = kept (s .shape .sources) w v
 
       changed : Settings
       changed = record {
@@ -321,7 +333,7 @@ module _ (s : State) (f : Sound s) where
       new : (d x : ℕ) → d * 4 + x ≡ c * 4 + w → enableWord changed d x ≡ word
       new d x e = unfold enableWord in ap (λ (k : ℕ). getD (set (s .settings .enable) (c * 4 + w) word) k 0) e
           ∙ getD-set-same (s .settings .enable) (c * 4 + w) word 0
-          (omega (arith, f .types .enable, context-range (s .shape) c there, f .limits .contexts .1))
+          (omega (arith, f .types .enable, context-range (s .shape .contexts) c there, f .limits .contexts .1))
 
       old : (d x : ℕ) → d * 4 + x ≢ c * 4 + w → enableWord changed d x ≡ enableWord (s .settings) d x
       old d x ne = unfold enableWord in getD-set-other (s .settings .enable) (c * 4 + w) (d * 4 + x) word 0 ne

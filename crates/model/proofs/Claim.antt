@@ -12,19 +12,18 @@ use borrow.Author.Tests.{leb-true, ltb-true, ltb-false, lt-ltb, le-leb}
 use Rattle.laws.specs.Fold.{allOf, anyTo, best, Best}
 use Rattle.laws.proofs.Truth.{dichotomy, not-so, and-intro, and-left, and-right, cond-so, cond-not}
 use Rattle.laws.proofs.Fold.{test-at, any-of, any-at, best-is, best-once}
-use Rattle.model.specs.declared.Shape.{Shape}
 use Rattle.model.specs.declared.State.{State}
 use Rattle.model.specs.Board.{Request, request, isSource, priority, threshold, enabled, enableWord, withSettings}
 use Rattle.model.specs.Waits.{isPending}
 use Rattle.model.specs.Life.{pendingFor, PendingFor, eligible, Eligible, rank, winner, Winner, rouses, Rouses, notified}
 
-pub source-range : (h : Shape) (i : ℕ) → So (isSource h i) → (1 ≤ i) × (i ≤ h .sources)
+pub source-range : (n i : ℕ) → So (isSource n i) → (1 ≤ i) × (i ≤ n)
 unfolding isSource
-source-range h i t = (leb-true 1 i (and-left _ _ t), leb-true i (h .sources) (and-right (leb 1 i) _ t))
+source-range n i t = (leb-true 1 i (and-left _ _ t), leb-true i n (and-right (leb 1 i) _ t))
 
-pub range-source : (h : Shape) (i : ℕ) → 1 ≤ i → i ≤ h .sources → So (isSource h i)
+pub range-source : (n i : ℕ) → 1 ≤ i → i ≤ n → So (isSource n i)
 unfolding isSource
-range-source h i a b = and-intro (le-leb 1 i a) (le-leb i (h .sources) b)
+range-source n i a b = and-intro (le-leb 1 i a) (le-leb i n b)
 
 pending-facts : (s : State) (c i : ℕ) → So (pendingFor s c i) → PendingFor s c i
 unfolding pendingFor
@@ -67,11 +66,11 @@ module _ (s : State) (c : ℕ) where
   rank-le i = ⊎-elim (λ f. omega (arith, rank-of i f)) (λ e. omega (arith, e)) (rank-or-none i)
 
   rank-zero : rank s c 0 ≡ 0
-  rank-zero = ⊎-elim (λ f. absurd (omega (arith, source-range (s .shape) 0 (f .0 .source)))) (λ e. e) (rank-or-none 0)
+  rank-zero = ⊎-elim (λ f. absurd (omega (arith, source-range (s .shape .sources) 0 (f .0 .source)))) (λ e. e) (rank-or-none 0)
 
   above-rank : (k : ℕ) → Best (rank s c) (suc (s .shape .sources)) k → (i : ℕ) → Eligible s c i → priority (s .settings) i ≤ rank s c k
   above-rank k b i f =
-      let in-range = source-range (s .shape) i (f .0 .source) in
+      let in-range = source-range (s .shape .sources) i (f .0 .source) in
       omega (arith, b .highest i (omega (arith, in-range .1)), rank-of i f)
 
   best-winner : (k : ℕ) → Best (rank s c) (suc (s .shape .sources)) k → Winner s c k
@@ -99,7 +98,7 @@ module _ (s : State) (c : ℕ) where
       there i f = w .some (λ e. w .none .0 e i f)
 
       within : k < suc (s .shape .sources)
-      within = ⊎-elim (λ e. omega arith) (λ h. omega (arith, source-range (s .shape) k (w .some (λ e. omega arith) .0 .source)))
+      within = ⊎-elim (λ e. omega arith) (λ h. omega (arith, source-range (s .shape .sources) k (w .some (λ e. omega arith) .0 .source)))
           (eq-zero-or-pos k)
 
       highest : (j : ℕ) → j < suc (s .shape .sources) → rank s c j ≤ rank s c k
@@ -138,6 +137,6 @@ unfolding notified
 notified-iff s c = (
   (λ t. let found = any-at (rouses s c) (suc (s .shape .sources)) t in (found .0, rouses-iff s c (found .0) .0 (found .2))),
   (λ p.
-      let range = source-range (s .shape) (p .0) (p .1 .0 .source) in
+      let range = source-range (s .shape .sources) (p .0) (p .1 .0 .source) in
       any-of (rouses s c) (suc (s .shape .sources)) (p .0) (omega (arith, range .1)) (rouses-iff s c (p .0) .1 (p .1))),
 )

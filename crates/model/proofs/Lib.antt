@@ -10,3 +10,4 @@ pub mod Calls
 pub mod Make
 pub mod Refusals
 pub mod Reports
+pub mod Tallies

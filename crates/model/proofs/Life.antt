@@ -15,7 +15,7 @@ use Rattle.model.specs.declared.Shape.{Shape}
 use Rattle.model.specs.declared.Requests.{Requests}
 use Rattle.model.specs.declared.State.{State}
 use Rattle.model.specs.Board.{Request, request, setRequest, isSource, kindOf, priority, withRequest}
-use Rattle.model.specs.Waits.{isIdle, isPending, isInService, openAge, wait}
+use Rattle.model.specs.Waits.{isIdle, isPending, isInService, openAge, wait, sourceClaims, sourceWaited}
 use Rattle.model.specs.Life.{lineAt, raised, edgeCounted, levelChanged, edgeChanged, lineChanged, lineChange, served, takesEffect, TakesEffect, idled, edgeTaken, completed}
 use Rattle.model.specs.Sound.{SoundSource, Sound}
 use Rattle.model.proofs.Board.{request-back}
@@ -28,14 +28,14 @@ takes-effect-iff s c v = (
   (λ f. unfold allOf in and-intro (f .source) (and-intro (f .enable) (and-intro (f .service) refl))),
 )
 
-module _ (h : Shape) (clock i prio : ℕ) (source : So (isSource h i)) where
+module _ (h : Shape) (clock i prio claimed waited : ℕ) (source : So (isSource (h .sources) i)) where
   abbrev Fine : Request → Type 0
-  Fine r = SoundSource h clock i prio r
+  Fine r = SoundSource h clock i prio claimed waited r
 
   -- a request that has just become pending
-  raised-fine : (r₀ r : Request) → Fine r₀ → r .extra ≤ 255 → (kindOf h i ≢ 2 → r .extra ≡ 0) → r .waited ≤ clock → Fine (raised clock r)
+  raised-fine : (r₀ r : Request) → Fine r₀ → r .extra ≤ 255 → (kindOf h i ≢ 2 → r .extra ≡ 0) → Fine (raised clock r)
   unfolding raised isPending isIdle openAge
-  raised-fine r₀ r f most counting waited = record {
+  raised-fine r₀ r f most counting = record {
     kind = f .kind;
     absent = λ e. absurd (not-so e source);
     priorities = f .priorities;
@@ -46,11 +46,8 @@ module _ (h : Shape) (clock i prio : ℕ) (source : So (isSource h i)) where
     counting = counting;
     edgeless = λ e. absurd (not-so refl e);
     level = λ k e. absurd (not-so refl e);
-    waits = omega arith;
+    waits = omega (arith, f .waits);
   }
-
-  closed-waits : (r : Request) → Fine r → r .waited ≤ clock
-  closed-waits r f = omega (arith, f .waits)
 
   -- a request whose line alone has changed
   line-fine : (v : Bool) (r : Request) → Fine r → (kindOf h i ≡ 0 → So (isIdle r) → So v → ⊥) → Fine (lineAt v r)
@@ -88,7 +85,7 @@ module _ (h : Shape) (clock i prio : ℕ) (source : So (isSource h i)) where
   module _ (v : Bool) (r : Request) (f : Fine r) where
     line-raised : Fine (raised clock (lineAt v r))
     unfolding lineAt
-    line-raised = raised-fine r (lineAt v r) f (f .extra) (f .counting) (closed-waits r f)
+    line-raised = raised-fine r (lineAt v r) f (f .extra) (f .counting)
 
     -- "Level. Idle with the line high becomes pending at once."
     level-fine : Fine (levelChanged clock v r)
@@ -116,7 +113,8 @@ module _ (h : Shape) (clock i prio : ℕ) (source : So (isSource h i)) where
     line-kept = cond-elim Fine (eqb (kindOf h i) 0) (λ _. level-fine) (λ t. edge-fine (eqb-false _ _ t))
 
   -- "It goes into service and its wait is booked."
-  pub served-kept : (r : Request) → Fine r → So (isPending r) → Fine (served clock r)
+  pub served-kept : (r : Request) → Fine r → So (isPending r) →
+      SoundSource h clock i prio (claimed + 1) (waited + wait clock r) (served r)
   unfolding served wait isPending isIdle openAge
   served-kept r f pending = record {
     kind = f .kind;
@@ -152,14 +150,14 @@ module _ (h : Shape) (clock i prio : ℕ) (source : So (isSource h i)) where
   pub completed-kept : (r : Request) → Fine r → Fine (completed (kindOf h i) clock r)
   unfolding completed
   completed-kept r f = cond-elim Fine (eqb (kindOf h i) 0 && r .line)
-      (λ _. raised-fine r r f (f .extra) (f .counting) (closed-waits r f))
+      (λ _. raised-fine r r f (f .extra) (f .counting))
       (λ low. cond-elim Fine (eqb (kindOf h i) 2 && ltb 0 (r .extra))
       (λ more. taken more)
       (λ none. idled-fine r f (spent none) (λ k l. not-so low (and-intro (eq-eqb _ _ k) l))))
     where
       taken : So (eqb (kindOf h i) 2 && ltb 0 (r .extra)) → Fine (raised clock (edgeTaken r))
       taken more = unfold edgeTaken in raised-fine r (edgeTaken r) f (omega (arith, f .extra))
-          (λ ne. absurd (ne (eqb-true _ _ (and-left (eqb (kindOf h i) 2) _ more)))) (closed-waits r f)
+          (λ ne. absurd (ne (eqb-true _ _ (and-left (eqb (kindOf h i) 2) _ more))))
 
       spent : (eqb (kindOf h i) 2 && ltb 0 (r .extra)) ≡ false → r .extra ≡ 0
       spent none = ⊎-elim
@@ -169,9 +167,9 @@ module _ (h : Shape) (clock i prio : ℕ) (source : So (isSource h i)) where
           (dichotomy (eqb (kindOf h i) 2))
 
 -- "Repeating the present level has no effect"
-repeated : (h : Shape) (clock i prio : ℕ) (r : Request) → SoundSource h clock i prio r → lineChanged (kindOf h i) clock (r .line) r ≡ r
+repeated : (h : Shape) (clock i prio claimed waited : ℕ) (r : Request) → SoundSource h clock i prio claimed waited r → lineChanged (kindOf h i) clock (r .line) r ≡ r
 unfolding lineChanged levelChanged edgeChanged lineAt
-repeated h clock i prio r f =
+repeated h clock i prio claimed waited r f =
     cond-elim (λ k. k ≡ r) (eqb (kindOf h i) 0)
     (λ level. cond-elim (λ k. k ≡ r) (isIdle r && r .line)
     (λ t. absurd (f .level (eqb-true _ _ level) (and-left (isIdle r) _ t) (and-right (isIdle r) _ t)))
@@ -187,8 +185,10 @@ repeat-level s f i h =
       steps = s .steps;
       settings = s .settings;
       requests = q;
+      counts = s .counts;
       buckets = s .buckets;
     })
     (ap (setRequest (s .requests) i)
-    (repeated (s .shape) (s .clock) i (priority (s .settings) i) (request (s .requests) i) (f .source i h))
+    (repeated (s .shape) (s .clock) i (priority (s .settings) i) (sourceClaims (s .counts) i) (sourceWaited (s .counts) i)
+    (request (s .requests) i) (f .source i h))
     ∙ request-back (s .requests) i)

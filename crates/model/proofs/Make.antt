@@ -20,7 +20,7 @@ use Rattle.model.specs.declared.Shape.{Shape}
 use Rattle.model.specs.declared.State.{State}
 use Rattle.model.specs.Board.{Request, request, priority, threshold, enableWord, withinLimits, kindsFor, isSource, isContext, kindOf, zeroShape, zeroState, freshIn, shapeOf}
 use Rattle.model.specs.Refusals.{firstOf}
-use Rattle.model.specs.Waits.{isPending, isIdle, openAge, boardClaims, boardWaited, bucketClaims, bucketTicks}
+use Rattle.model.specs.Waits.{isPending, isIdle, openAge, sourceClaims, sourceWaited, boardClaims, boardWaited, bucketClaims, bucketTicks}
 use Rattle.model.specs.Sound.{WithinLimits, AllZero, SoundSource, SoundContext, Sound}
 use Rattle.model.specs.Calls.{badShape, make}
 use Rattle.model.proofs.Sound.{limits-facts}
@@ -28,14 +28,14 @@ use Rattle.model.proofs.Claim.{range-source}
 
 -- a request of which nothing has been heard
 zeroRequest : Request
-zeroRequest = record { stage = 0; line = false; extra = 0; start = 0; claims = 0; waited = 0 }
+zeroRequest = record { stage = 0; line = false; extra = 0; start = 0 }
 
 module _ (n c b : ℕ) (kinds : List ℕ) (limits : WithinLimits n c b) (long : length kinds ≡ n)
     (right : (i : ℕ) → i < length kinds → getD kinds i 0 ≤ 2) where
   h : Shape
   h = shapeOf n c b kinds
 
-  kind-of : (i : ℕ) → i < 128 → (kindOf h i ≤ 2) × (isSource h i ≡ false → kindOf h i ≡ 0)
+  kind-of : (i : ℕ) → i < 128 → (kindOf h i ≤ 2) × (isSource (h .sources) i ≡ false → kindOf h i ≡ 0)
   unfolding h kindOf shapeOf
   kind-of zero l = (omega arith, λ _. refl)
   kind-of (suc i) l = ⊎-elim
@@ -43,7 +43,7 @@ module _ (n c b : ℕ) (kinds : List ℕ) (limits : WithinLimits n c b) (long : 
       let inside : i < length kinds = omega (arith, ltb-true i n t) in
       let kind-is : getD (kinds ++ replicate (127 - length kinds) 0) i 0 ≡ getD kinds i 0 = List·getD-append kinds _ 0 i inside in (
         omega (arith, kind-is, right i inside),
-        λ e. absurd (not-so e (range-source h (suc i) (omega arith) (omega (arith, ltb-true i n t)))),
+        λ e. absurd (not-so e (range-source n (suc i) (omega arith) (omega (arith, ltb-true i n t)))),
       ))
       (λ t.
       let zero-is : getD (kinds ++ replicate (127 - length kinds) 0) i 0 ≡ 0 = past i l (ltb-false i n t) in
@@ -68,13 +68,12 @@ module _ (n c b : ℕ) (kinds : List ℕ) (limits : WithinLimits n c b) (long : 
     line = getD-replicate 128 i false false l k;
     extra = getD-replicate 128 i 0 0 l k;
     start = getD-replicate 128 i 0 0 l k;
-    claims = getD-replicate 128 i 0 0 l k;
-    waited = getD-replicate 128 i 0 0 l k;
   }
 
-  zero-fine : (i prio : ℕ) → i < 128 → prio ≡ 0 → SoundSource h 0 i prio zeroRequest
+  zero-fine : (i prio claimed waited : ℕ) → i < 128 → prio ≡ 0 → claimed ≡ 0 → waited ≡ 0 →
+      SoundSource h 0 i prio claimed waited zeroRequest
   unfolding zeroRequest isPending isIdle openAge
-  zero-fine i prio l p = record {
+  zero-fine i prio claimed waited l p c₀ w₀ = record {
     kind = kind-of i l .0;
     absent = λ e. record {
       kind = kind-of i l .1 e;
@@ -83,8 +82,8 @@ module _ (n c b : ℕ) (kinds : List ℕ) (limits : WithinLimits n c b) (long : 
       line = refl;
       extra = refl;
       start = refl;
-      claims = refl;
-      waited = refl;
+      claims = c₀;
+      waited = w₀;
     };
     priorities = omega arith;
     stage = omega arith;
@@ -120,28 +119,31 @@ module _ (n c b : ℕ) (kinds : List ℕ) (limits : WithinLimits n c b) (long : 
         line = length-replicate {A = Bool} 128 false;
         extra = length-replicate {A = ℕ} 128 0;
         start = length-replicate {A = ℕ} 128 0;
-        claims = length-replicate {A = ℕ} 128 0;
-        waited = length-replicate {A = ℕ} 128 0;
       };
+      claims = length-replicate {A = ℕ} 128 0;
+      waited = length-replicate {A = ℕ} 128 0;
       bucketClaims = length-replicate {A = ℕ} 33 0;
       bucketTicks = length-replicate {A = ℕ} 33 0;
       clock = omega arith;
       steps = omega arith;
     };
     limits = unfold h shapeOf in limits;
-    source = λ i l. subst (SoundSource h 0 i (priority (freshIn h .settings) i)) (sym (fresh-request i l))
-        (zero-fine i (priority (freshIn h .settings) i) l (unfold priority in getD-replicate 128 i 0 0 l));
+    source = λ i l. subst (SoundSource h 0 i (priority (freshIn h .settings) i) (sourceClaims (freshIn h .counts) i)
+        (sourceWaited (freshIn h .counts) i)) (sym (fresh-request i l))
+        (zero-fine i (priority (freshIn h .settings) i) (sourceClaims (freshIn h .counts) i) (sourceWaited (freshIn h .counts) i) l
+        (unfold priority in getD-replicate 128 i 0 0 l) (unfold sourceClaims in getD-replicate 128 i 0 0 l)
+        (unfold sourceWaited in getD-replicate 128 i 0 0 l));
     context = zero-context;
     claims = omega (arith, no-claims);
     claimsBooked = no-claims ∙ sym (sum-zero (bucketClaims (freshIn h .buckets)) 33 (λ k l. unfold bucketClaims in getD-replicate 33 k 0 0 l));
     ticksBooked = no-ticks ∙ sym (sum-zero (bucketTicks (freshIn h .buckets)) 33 (λ k l. unfold bucketTicks in getD-replicate 33 k 0 0 l));
   }
     where
-      no-claims : boardClaims (freshIn h .requests) ≡ 0
-      no-claims = unfold boardClaims zeroRequest in sum-zero _ 128 (λ i l. ap (λ (r : Request). r .claims) (fresh-request i l))
+      no-claims : boardClaims (freshIn h .counts) ≡ 0
+      no-claims = unfold boardClaims sourceClaims in sum-zero _ 128 (λ i l. getD-replicate 128 i 0 0 l)
 
-      no-ticks : boardWaited (freshIn h .requests) ≡ 0
-      no-ticks = unfold boardWaited zeroRequest in sum-zero _ 128 (λ i l. ap (λ (r : Request). r .waited) (fresh-request i l))
+      no-ticks : boardWaited (freshIn h .counts) ≡ 0
+      no-ticks = unfold boardWaited sourceWaited in sum-zero _ 128 (λ i l. getD-replicate 128 i 0 0 l)
 
 -- the cases of making
 

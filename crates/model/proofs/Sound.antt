@@ -20,7 +20,7 @@ use Rattle.model.specs.declared.State.{State}
 use Rattle.model.specs.Board.{Request, request, withinLimits, isSource, isContext, kindOf, priority, threshold, enableWord}
 use Rattle.model.specs.Waits.{isIdle, isPending, openAge, boardClaims, boardWaited, bucketClaims, bucketTicks}
 use Rattle.model.specs.Registers.{kept}
-use Rattle.model.specs.Sound.{typed, allZero, soundSource, soundContext, sound, Typed, WithinLimits, AllZero, SoundSource, SoundContext, Sound}
+use Rattle.model.specs.Sound.{typed, allZero, soundSource, soundSourceAt, soundContext, sound, Typed, WithinLimits, AllZero, SoundSource, SoundSourceAt, SoundContext, Sound}
 
 -- a clause "a or b" is "b where not a"
 or-else : (a b : Bool) → So (a || b) → a ≡ false → So b
@@ -49,9 +49,9 @@ typed-facts s h = record {
     line = eqb-true _ _ (test-at _ h 5);
     extra = eqb-true _ _ (test-at _ h 6);
     start = eqb-true _ _ (test-at _ h 7);
-    claims = eqb-true _ _ (test-at _ h 8);
-    waited = eqb-true _ _ (test-at _ h 9);
   };
+  claims = eqb-true _ _ (test-at _ h 8);
+  waited = eqb-true _ _ (test-at _ h 9);
   bucketClaims = eqb-true _ _ (test-at _ h 10);
   bucketTicks = eqb-true _ _ (test-at _ h 11);
   clock = leb-true _ _ (test-at _ h 12);
@@ -64,8 +64,8 @@ typed-test s f =
     let room = f .requests in
     and-intro (eq-eqb _ _ (f .kind)) (and-intro (eq-eqb _ _ (f .priority)) (and-intro (eq-eqb _ _ (f .enable))
     (and-intro (eq-eqb _ _ (f .threshold)) (and-intro (eq-eqb _ _ (room .stage)) (and-intro (eq-eqb _ _ (room .line))
-    (and-intro (eq-eqb _ _ (room .extra)) (and-intro (eq-eqb _ _ (room .start)) (and-intro (eq-eqb _ _ (room .claims))
-    (and-intro (eq-eqb _ _ (room .waited)) (and-intro (eq-eqb _ _ (f .bucketClaims)) (and-intro (eq-eqb _ _ (f .bucketTicks))
+    (and-intro (eq-eqb _ _ (room .extra)) (and-intro (eq-eqb _ _ (room .start)) (and-intro (eq-eqb _ _ (f .claims))
+    (and-intro (eq-eqb _ _ (f .waited)) (and-intro (eq-eqb _ _ (f .bucketClaims)) (and-intro (eq-eqb _ _ (f .bucketTicks))
     (and-intro (le-leb _ _ (f .clock)) (and-intro (le-leb _ _ (f .steps)) refl)))))))))))))
 
 pub limits-facts : (n c b : ℕ) → So (withinLimits n c b) → WithinLimits n c b
@@ -83,9 +83,9 @@ limits-test n c b f =
     (and-intro (le-leb _ _ (f .contexts .0)) (and-intro (le-leb _ _ (f .contexts .1))
     (and-intro (le-leb _ _ (f .bits .0)) (and-intro (le-leb _ _ (f .bits .1)) refl)))))
 
-zero-facts : (k p : ℕ) (r : Request) → So (allZero k p r) → AllZero k p r
+zero-facts : (k p c w : ℕ) (r : Request) → So (allZero k p c w r) → AllZero k p c w r
 unfolding allZero
-zero-facts k p r h = record {
+zero-facts k p c w r h = record {
   kind = eqb-true _ _ (test-at _ h 0);
   priority = eqb-true _ _ (test-at _ h 1);
   stage = eqb-true _ _ (test-at _ h 2);
@@ -96,18 +96,18 @@ zero-facts k p r h = record {
   waited = eqb-true _ _ (test-at _ h 7);
 }
 
-zero-test : (k p : ℕ) (r : Request) → AllZero k p r → So (allZero k p r)
+zero-test : (k p c w : ℕ) (r : Request) → AllZero k p c w r → So (allZero k p c w r)
 unfolding allZero allOf
-zero-test k p r f =
+zero-test k p c w r f =
     and-intro (eq-eqb _ _ (f .kind)) (and-intro (eq-eqb _ _ (f .priority)) (and-intro (eq-eqb _ _ (f .stage))
     (and-intro (ap not (f .line)) (and-intro (eq-eqb _ _ (f .extra)) (and-intro (eq-eqb _ _ (f .start))
     (and-intro (eq-eqb _ _ (f .claims)) (and-intro (eq-eqb _ _ (f .waited)) refl)))))))
 
-source-facts : (h : Shape) (clock i prio : ℕ) (r : Request) → So (soundSource h clock i prio r) → SoundSource h clock i prio r
-unfolding soundSource
-source-facts h clock i prio r t = record {
+source-facts : (s : State) (i : ℕ) → So (soundSourceAt s i) → SoundSourceAt s i
+unfolding soundSourceAt soundSource
+source-facts s i t = record {
   kind = leb-true _ _ (test-at _ t 0);
-  absent = λ e. zero-facts _ _ _ (or-else _ _ (test-at _ t 1) e);
+  absent = λ e. zero-facts _ _ _ _ _ (or-else _ _ (test-at _ t 1) e);
   priorities = leb-true _ _ (test-at _ t 2);
   stage = leb-true _ _ (test-at _ t 3);
   start = leb-true _ _ (test-at _ t 4);
@@ -119,11 +119,11 @@ source-facts h clock i prio r t = record {
   waits = leb-true _ _ (test-at _ t 10);
 }
 
-source-test : (h : Shape) (clock i prio : ℕ) (r : Request) → SoundSource h clock i prio r → So (soundSource h clock i prio r)
-unfolding soundSource allOf
-source-test h clock i prio r f =
+source-test : (s : State) (i : ℕ) → SoundSourceAt s i → So (soundSourceAt s i)
+unfolding soundSourceAt soundSource allOf
+source-test s i f =
     and-intro (le-leb _ _ (f .kind))
-    (and-intro (else-or _ _ (λ e. zero-test _ _ _ (f .absent e)))
+    (and-intro (else-or _ _ (λ e. zero-test _ _ _ _ _ (f .absent e)))
     (and-intro (le-leb _ _ (f .priorities))
     (and-intro (le-leb _ _ (f .stage))
     (and-intro (le-leb _ _ (f .start))
@@ -131,36 +131,36 @@ source-test h clock i prio r f =
     (and-intro (le-leb _ _ (f .extra))
     (and-intro (else-or _ _ (λ e. eq-eqb _ _ (f .counting (eqb-false _ _ e))))
     (and-intro (else-or _ _ (λ e. eq-eqb _ _ (f .edgeless (not-false _ e))))
-    (and-intro (not-all (eqb (kindOf h i) 0) (isIdle r) (r .line) (λ k. f .level (eqb-true _ _ k)))
+    (and-intro (not-all (eqb (kindOf (s .shape) i) 0) (isIdle (request (s .requests) i)) (request (s .requests) i .line) (λ k. f .level (eqb-true _ _ k)))
     (and-intro (le-leb _ _ (f .waits)) refl))))))))))
 
 -- a set bit of a kept word is that of a source, and the other way round
-pub kept-bit : (h : Shape) (w v j : ℕ) → j < 32 → bit (kept h w v) j ≡ (bit v j && isSource h (w * 32 + j))
+pub kept-bit : (n w v j : ℕ) → j < 32 → bit (kept n w v) j ≡ (bit v j && isSource n (w * 32 + j))
 unfolding kept
-kept-bit h w v j k = bit-packed _ 32 j k
+kept-bit n w v j k = bit-packed _ 32 j k
 
-pub kept-above : (h : Shape) (w v j : ℕ) → 32 ≤ j → bit (kept h w v) j ≡ false
+pub kept-above : (n w v j : ℕ) → 32 ≤ j → bit (kept n w v) j ≡ false
 unfolding kept
-kept-above h w v j k = bit-above _ 32 j (packed-lt _ 32) k
+kept-above n w v j k = bit-above _ 32 j (packed-lt _ 32) k
 
-word-facts : (h : Shape) (w v : ℕ) → v ≡ kept h w v → (j : ℕ) → So (bit v j) → (j < 32) × So (isSource h (w * 32 + j))
-word-facts h w v e j t = ⊎-elim
+word-facts : (n w v : ℕ) → v ≡ kept n w v → (j : ℕ) → So (bit v j) → (j < 32) × So (isSource n (w * 32 + j))
+word-facts n w v e j t = ⊎-elim
     (λ k.
     let l : j < 32 = ltb-true j 32 k in
-    (l, and-right (bit v j) (isSource h (w * 32 + j)) (sym (kept-bit h w v j l) ∙ t′)))
-    (λ k. absurd (not-so (kept-above h w v j (ltb-false j 32 k)) t′))
+    (l, and-right (bit v j) (isSource n (w * 32 + j)) (sym (kept-bit n w v j l) ∙ t′)))
+    (λ k. absurd (not-so (kept-above n w v j (ltb-false j 32 k)) t′))
     (dichotomy (ltb j 32))
   where
-    t′ : So (bit (kept h w v) j)
+    t′ : So (bit (kept n w v) j)
     t′ = subst (λ (x : ℕ). So (bit x j)) e t
 
-word-test : (h : Shape) (w v : ℕ) → ((j : ℕ) → So (bit v j) → (j < 32) × So (isSource h (w * 32 + j))) → v ≡ kept h w v
-word-test h w v f = bits-ext v (kept h w v) (λ j. ⊎-elim
-    (λ k. same-test _ _ (λ t. kept-bit h w v j (ltb-true j 32 k) ∙ and-intro t (f j t .1))
-    (λ t. and-left (bit v j) _ (sym (kept-bit h w v j (ltb-true j 32 k)) ∙ t)))
+word-test : (n w v : ℕ) → ((j : ℕ) → So (bit v j) → (j < 32) × So (isSource n (w * 32 + j))) → v ≡ kept n w v
+word-test n w v f = bits-ext v (kept n w v) (λ j. ⊎-elim
+    (λ k. same-test _ _ (λ t. kept-bit n w v j (ltb-true j 32 k) ∙ and-intro t (f j t .1))
+    (λ t. and-left (bit v j) _ (sym (kept-bit n w v j (ltb-true j 32 k)) ∙ t)))
     (λ k.
     let l : 32 ≤ j = ltb-false j 32 k in
-    so-not (bit v j) (λ t. not-so (le-ltb j 32 l) (lt-ltb j 32 (f j t .0))) ∙ sym (kept-above h w v j l))
+    so-not (bit v j) (λ t. not-so (le-ltb j 32 l) (lt-ltb j 32 (f j t .0))) ∙ sym (kept-above n w v j l))
     (dichotomy (ltb j 32)))
 
 context-facts : (h : Shape) (g : Settings) (c : ℕ) → So (soundContext h g c) → SoundContext h g c
@@ -169,7 +169,7 @@ context-facts h g c t = record {
   absentThreshold = λ e. eqb-true _ _ (or-else _ _ (test-at _ t 0) e);
   absentEnables = λ e w k. eqb-true _ _ (all-at _ 4 (or-else _ _ (test-at _ t 1) e) w k);
   thresholds = leb-true _ _ (test-at _ t 2);
-  enables = λ w j k. word-facts h w (enableWord g c w) (eqb-true _ _ (all-at _ 4 (test-at _ t 3) w k)) j;
+  enables = λ w j k. word-facts (h .sources) w (enableWord g c w) (eqb-true _ _ (all-at _ 4 (test-at _ t 3) w k)) j;
 }
 
 context-test : (h : Shape) (g : Settings) (c : ℕ) → SoundContext h g c → So (soundContext h g c)
@@ -178,14 +178,14 @@ context-test h g c f =
     and-intro (else-or _ _ (λ e. eq-eqb _ _ (f .absentThreshold e)))
     (and-intro (else-or _ _ (λ e. all-of _ 4 (λ w k. eq-eqb _ _ (f .absentEnables e w k))))
     (and-intro (le-leb _ _ (f .thresholds))
-    (and-intro (all-of _ 4 (λ w k. eq-eqb _ _ (word-test h w (enableWord g c w) (λ j. f .enables w j k)))) refl)))
+    (and-intro (all-of _ 4 (λ w k. eq-eqb _ _ (word-test (h .sources) w (enableWord g c w) (λ j. f .enables w j k)))) refl)))
 
 pub sound-facts : (s : State) → So (sound s) → Sound s
 unfolding sound
 sound-facts s t = record {
   types = typed-facts s (test-at _ t 0);
   limits = limits-facts _ _ _ (test-at _ t 1);
-  source = λ i k. source-facts _ _ i _ _ (all-at _ 128 (test-at _ t 2) i k);
+  source = λ i k. source-facts s i (all-at _ 128 (test-at _ t 2) i k);
   context = λ c k. context-facts _ _ c (all-at _ 8 (test-at _ t 3) c k);
   claims = leb-true _ _ (test-at _ t 4);
   claimsBooked = eqb-true _ _ (test-at _ t 5);
@@ -197,7 +197,7 @@ unfolding sound allOf
 sound-test s f =
     and-intro (typed-test s (f .types))
     (and-intro (limits-test _ _ _ (f .limits))
-    (and-intro (all-of _ 128 (λ i k. source-test _ _ i _ _ (f .source i k)))
+    (and-intro (all-of _ 128 (λ i k. source-test s i (f .source i k)))
     (and-intro (all-of _ 8 (λ c k. context-test _ _ c (f .context c k)))
     (and-intro (le-leb _ _ (f .claims))
     (and-intro (eq-eqb _ _ (f .claimsBooked)) (and-intro (eq-eqb _ _ (f .ticksBooked)) refl))))))

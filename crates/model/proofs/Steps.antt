@@ -1,6 +1,6 @@
 -- Each step keeps a sound state sound, and counts as one step.
 -- Assumes nothing.
-use mathlib.Core.Path.{_≡_, _∙_, refl, sym, ap, subst}
+use mathlib.Core.Path.{_≡_, _∙_, refl, sym, ap, subst, subst₂}
 use mathlib.Core.Bool.{Bool, true, false, not, cond, _&&_, So}
 use mathlib.Core.Logic.{_⊎_, ⊎-elim, _≢_}
 use mathlib.Core.List.{List, [], _∷_}
@@ -15,96 +15,69 @@ use Rattle.model.specs.declared.Buckets.{Buckets}
 use Rattle.model.specs.declared.State.{State}
 use Rattle.model.specs.declared.Register.{Register}
 use Rattle.model.specs.declared.Register.the-variants.{Priority, Pending, Enable, Threshold, Claim, Nothing}
-use Rattle.model.specs.Board.{Request, request, setRequest, isSource, isContext, isWord, kindOf, priority, enabled, withSteps, withRequest, withBuckets, withClock, withSettings}
-use Rattle.model.specs.Waits.{isIdle, isPending, isInService, wait, bucketOf, booked, boardClaims, boardWaited, bucketClaims, bucketTicks}
+use Rattle.model.specs.Board.{Request, request, setRequest, isSource, isContext, isWord, kindOf, priority, enabled, withSteps, withRequest, withCounts, withClock, withSettings}
+use Rattle.model.specs.Waits.{isIdle, isPending, isInService, wait, bucketOf, counted, booked, sourceClaims, sourceWaited, boardClaims, boardWaited, bucketClaims, bucketTicks}
 use Rattle.model.specs.Life.{lineAt, raised, edgeCounted, levelChanged, edgeChanged, lineChanged, lineChange, advanced, winner, served, claimOf, claimBy, takesEffect, idled, edgeTaken, completed, completeBy}
 use Rattle.model.specs.Registers.{StandsAt, decode, afterRead, afterWrite, withPriority, withEnable, withThreshold}
 use Rattle.model.specs.Sound.{SoundSource, Sound}
 use Rattle.model.proofs.Claim.{source-range, winner-is}
 use Rattle.model.proofs.Waits.{bucket-holds}
 use Rattle.model.proofs.Registers.{word-range, is-named}
-use Rattle.model.proofs.Board.{request-sum, list-sum}
+use Rattle.model.proofs.Tallies.{counted-same, counted-other, counted-sums, booked-sums}
 use Rattle.model.proofs.Life.{line-kept, served-kept, takes-effect-iff, completed-kept}
 use Rattle.model.proofs.Change.{sound-steps, sound-clock, sound-request, sound-priority, sound-threshold, sound-enable}
 
--- a change of a request that books nothing
-pub record Unbooked (r r′ : Request) : Type 0 where
-  pub claims : r′ .claims ≡ r .claims
-  pub waited : r′ .waited ≡ r .waited
-
-pub line-unbooked : (kind clock : ℕ) (v : Bool) (r : Request) → Unbooked r (lineChanged kind clock v r)
-unfolding lineChanged levelChanged edgeChanged lineAt raised edgeCounted
-line-unbooked kind clock v r =
-    cond-elim (Unbooked r) (eqb kind 0)
-    (λ _. cond-elim (Unbooked r) (isIdle r && v)
-    (λ _. record { claims = refl; waited = refl }) (λ _. record { claims = refl; waited = refl }))
-    (λ _. cond-elim (Unbooked r) (not (r .line) && v)
-    (λ _. cond-elim (Unbooked r) (isIdle r) (λ _. record { claims = refl; waited = refl })
-    (λ _. cond-elim (Unbooked r) (eqb kind 2)
-    (λ _. record { claims = refl; waited = refl }) (λ _. record { claims = refl; waited = refl })))
-    (λ _. record { claims = refl; waited = refl }))
-
-pub completed-unbooked : (kind clock : ℕ) (r : Request) → Unbooked r (completed kind clock r)
-unfolding completed raised edgeTaken idled
-completed-unbooked kind clock r =
-    cond-elim (Unbooked r) (eqb kind 0 && r .line) (λ _. record { claims = refl; waited = refl })
-    (λ _. cond-elim (Unbooked r) (eqb kind 2 && ltb 0 (r .extra))
-    (λ _. record { claims = refl; waited = refl }) (λ _. record { claims = refl; waited = refl }))
-
 module _ (s : State) (f : Sound s) (room : s .steps < 4294967295) where
-  below : (i : ℕ) → So (isSource (s .shape) i) → i < 128
-  below i t = omega (arith, source-range (s .shape) i t .1, f .limits .sources .1)
+  below : (i : ℕ) → So (isSource (s .shape .sources) i) → i < 128
+  below i t = omega (arith, source-range (s .shape .sources) i t .1, f .limits .sources .1)
 
   -- a change that books nothing, counted as a step
-  unbooked-kept : (i : ℕ) (r : Request) → So (isSource (s .shape) i) →
-      SoundSource (s .shape) (s .clock) i (priority (s .settings) i) r → Unbooked (request (s .requests) i) r →
+  unbooked-kept : (i : ℕ) (r : Request) → So (isSource (s .shape .sources) i) →
+      SoundSource (s .shape) (s .clock) i (priority (s .settings) i) (sourceClaims (s .counts) i) (sourceWaited (s .counts) i) r →
       Sound (withSteps (withRequest s i r) (s .steps + 1))
-  unfolding withRequest withBuckets withSteps
-  unbooked-kept i r source fine same =
-      sound-request s f i r (s .buckets) (s .steps + 1) (below i source) fine (f .types .bucketClaims) (f .types .bucketTicks)
-      (omega arith) (omega (arith, claims, f .claims)) (claims ∙ f .claimsBooked) (waited ∙ f .ticksBooked)
-    where
-      claims : boardClaims (setRequest (s .requests) i r) ≡ boardClaims (s .requests)
-      claims = unfold boardClaims in
-          omega (arith, request-sum (s .requests) i r (f .types .requests) (λ r. r .claims) (below i source), same .claims)
+  unfolding withRequest withCounts withSteps
+  unbooked-kept i r source fine =
+      sound-request s f i r (s .counts) (s .buckets) (s .steps + 1) (below i source) fine (λ _ _. (refl, refl))
+      (f .types .claims, f .types .waited) (f .types .bucketClaims, f .types .bucketTicks)
+      (omega arith) (omega (arith, f .claims)) (f .claimsBooked) (f .ticksBooked)
 
-      waited : boardWaited (setRequest (s .requests) i r) ≡ boardWaited (s .requests)
-      waited = unfold boardWaited in
-          omega (arith, request-sum (s .requests) i r (f .types .requests) (λ r. r .waited) (below i source), same .waited)
-
-  pub line-step : (i : ℕ) (v : Bool) → So (isSource (s .shape) i) → Sound (withSteps (lineChange s i v) (s .steps + 1))
+  pub line-step : (i : ℕ) (v : Bool) → So (isSource (s .shape .sources) i) → Sound (withSteps (lineChange s i v) (s .steps + 1))
   unfolding lineChange
   line-step i v source =
-      let r = request (s .requests) i in
-      let kind = kindOf (s .shape) i in
-      unbooked-kept i (lineChanged kind (s .clock) v r) source
-      (line-kept (s .shape) (s .clock) i (priority (s .settings) i) source v r (f .source i (below i source)))
-      (line-unbooked kind (s .clock) v r)
+      unbooked-kept i (lineChanged (kindOf (s .shape) i) (s .clock) v (request (s .requests) i)) source
+      (line-kept (s .shape) (s .clock) i (priority (s .settings) i) (sourceClaims (s .counts) i) (sourceWaited (s .counts) i) source v
+      (request (s .requests) i) (f .source i (below i source)))
 
   pub complete-step : (c v : ℕ) → Sound (withSteps (completeBy s c v) (s .steps + 1))
   unfolding completeBy
   complete-step c v = cond-elim (λ (k : State). Sound (withSteps k (s .steps + 1))) (takesEffect s c v)
       (λ t.
-      let r = request (s .requests) v in
       let source = takes-effect-iff s c v .0 t .source in
-      unbooked-kept v (completed (kindOf (s .shape) v) (s .clock) r) source
-      (completed-kept (s .shape) (s .clock) v (priority (s .settings) v) source r (f .source v (below v source)))
-      (completed-unbooked (kindOf (s .shape) v) (s .clock) r))
+      unbooked-kept v (completed (kindOf (s .shape) v) (s .clock) (request (s .requests) v)) source
+      (completed-kept (s .shape) (s .clock) v (priority (s .settings) v) (sourceClaims (s .counts) v) (sourceWaited (s .counts) v)
+      source (request (s .requests) v) (f .source v (below v source))))
       (λ _. sound-steps s f (s .steps + 1) (omega arith) (omega arith))
 
   -- a claim books its wait once with the source and once with the bucket
-  pub claim-of-step : (i : ℕ) → So (isSource (s .shape) i) → So (isPending (request (s .requests) i)) →
+  pub claim-of-step : (i : ℕ) → So (isSource (s .shape .sources) i) → So (isPending (request (s .requests) i)) →
       Sound (withSteps (claimOf s i) (s .steps + 1))
   unfolding claimOf
   claim-of-step i source pending =
-      sound-request s f i (served (s .clock) r) (booked (s .buckets) w) (s .steps + 1) (below i source)
-      (served-kept (s .shape) (s .clock) i (priority (s .settings) i) source r (f .source i (below i source)) pending)
-      (unfold booked in length-set (s .buckets .claims) k (getD (s .buckets .claims) k 0 + 1) ∙ f .types .bucketClaims)
-      (unfold booked in length-set (s .buckets .ticks) k (getD (s .buckets .ticks) k 0 + w) ∙ f .types .bucketTicks)
+      sound-request s f i (served r) (counted (s .counts) i w) (booked (s .buckets) w) (s .steps + 1) (below i source)
+      (subst₂ (λ (x y : ℕ). SoundSource (s .shape) (s .clock) i (priority (s .settings) i) x y (served r))
+      (sym (one-more .0)) (sym (one-more .1))
+      (served-kept (s .shape) (s .clock) i (priority (s .settings) i) (sourceClaims (s .counts) i) (sourceWaited (s .counts) i)
+      source r (f .source i (below i source)) pending))
+      (counted-other (s .counts) i w)
+      (unfold counted in (length-set (s .counts .claims) i _ ∙ f .types .claims, length-set (s .counts .waited) i _ ∙ f .types .waited))
+      (unfold booked in (
+        length-set (s .buckets .claims) (bucketOf w) _ ∙ f .types .bucketClaims,
+        length-set (s .buckets .ticks) (bucketOf w) _ ∙ f .types .bucketTicks,
+      ))
       (omega arith)
-      (omega (arith, claims, f .claims))
-      (omega (arith, claims, bucket-claims, f .claimsBooked))
-      (omega (arith, waited, bucket-ticks, f .ticksBooked))
+      (omega (arith, sums .0, f .claims))
+      (omega (arith, sums .0, bucket-sums .0, f .claimsBooked))
+      (omega (arith, sums .1, bucket-sums .1, f .ticksBooked))
     where
       r : Request
       r = request (s .requests) i
@@ -112,27 +85,18 @@ module _ (s : State) (f : Sound s) (room : s .steps < 4294967295) where
       w : ℕ
       w = wait (s .clock) r
 
-      k : ℕ
-      k = bucketOf w
+      one-more : (sourceClaims (counted (s .counts) i w) i ≡ sourceClaims (s .counts) i + 1)
+          × (sourceWaited (counted (s .counts) i w) i ≡ sourceWaited (s .counts) i + w)
+      one-more = counted-same (s .counts) i w (omega (arith, below i source, f .types .claims)) (omega (arith, below i source, f .types .waited))
 
-      k-below : k < 33
-      k-below = omega (arith, bucket-holds w (unfold wait in omega (arith, f .types .clock)) .exists)
+      sums : (boardClaims (counted (s .counts) i w) ≡ boardClaims (s .counts) + 1)
+          × (boardWaited (counted (s .counts) i w) ≡ boardWaited (s .counts) + w)
+      sums = counted-sums (s .counts) i w (below i source) (f .types .claims) (f .types .waited)
 
-      claims : boardClaims (setRequest (s .requests) i (served (s .clock) r)) ≡ boardClaims (s .requests) + 1
-      claims = unfold boardClaims served in
-          omega (arith, request-sum (s .requests) i (served (s .clock) r) (f .types .requests) (λ r. r .claims) (below i source))
-
-      waited : boardWaited (setRequest (s .requests) i (served (s .clock) r)) ≡ boardWaited (s .requests) + w
-      waited = unfold boardWaited served in
-          omega (arith, request-sum (s .requests) i (served (s .clock) r) (f .types .requests) (λ r. r .waited) (below i source))
-
-      bucket-claims : sumTo (bucketClaims (booked (s .buckets) w)) 33 ≡ sumTo (bucketClaims (s .buckets)) 33 + 1
-      bucket-claims = unfold bucketClaims booked in
-          omega (arith, list-sum (s .buckets .claims) 33 k (getD (s .buckets .claims) k 0 + 1) k-below (omega (arith, k-below, f .types .bucketClaims)))
-
-      bucket-ticks : sumTo (bucketTicks (booked (s .buckets) w)) 33 ≡ sumTo (bucketTicks (s .buckets)) 33 + w
-      bucket-ticks = unfold bucketTicks booked in
-          omega (arith, list-sum (s .buckets .ticks) 33 k (getD (s .buckets .ticks) k 0 + w) k-below (omega (arith, k-below, f .types .bucketTicks)))
+      bucket-sums : (sumTo (bucketClaims (booked (s .buckets) w)) 33 ≡ sumTo (bucketClaims (s .buckets)) 33 + 1)
+          × (sumTo (bucketTicks (booked (s .buckets) w)) 33 ≡ sumTo (bucketTicks (s .buckets)) 33 + w)
+      bucket-sums = booked-sums (s .buckets) w
+          (omega (arith, bucket-holds w (unfold wait in omega (arith, f .types .clock)) .exists)) (f .types .bucketClaims) (f .types .bucketTicks)
 
   pub claim-step : (c : ℕ) → Sound (withSteps (claimBy s c) (s .steps + 1))
   unfolding claimBy
@@ -163,7 +127,7 @@ module _ (s : State) (f : Sound s) (room : s .steps < 4294967295) where
   settings-step : (k : State) → Sound k → k .steps ≡ s .steps → Sound (withSteps k (s .steps + 1))
   settings-step k g e = sound-steps k g (s .steps + 1) (omega arith) (omega arith)
 
-  pub write-step : (off : ℕ) (r : Register) (v : ℕ) → (r ≢ Nothing → StandsAt (s .shape) off r) →
+  pub write-step : (off : ℕ) (r : Register) (v : ℕ) → (r ≢ Nothing → StandsAt (s .shape .sources) (s .shape .contexts) off r) →
       Sound (withSteps (afterWrite s r v) (s .steps + 1))
   unfolding afterWrite
   write-step off (Priority i) v p =
@@ -173,7 +137,7 @@ module _ (s : State) (f : Sound s) (room : s .steps < 4294967295) where
   write-step off (Enable c w) v p =
       let there = p (is-named (Enable c w) refl) in
       settings-step (withEnable s c w v)
-      (sound-enable s f c w v (there .0) (omega (arith, word-range (s .shape) w (there .1), f .limits .sources .1)))
+      (sound-enable s f c w v (there .0) (omega (arith, word-range (s .shape .sources) w (there .1), f .limits .sources .1)))
       (unfold withEnable withSettings in refl)
   write-step off (Threshold c) v p =
       settings-step (withThreshold s c v) (sound-threshold s f c v (p (is-named (Threshold c) refl) .0))

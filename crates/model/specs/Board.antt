@@ -10,6 +10,7 @@ use Rattle.laws.specs.Bits.{bit}
 use Rattle.model.specs.declared.Shape.{Shape}
 use Rattle.model.specs.declared.Settings.{Settings}
 use Rattle.model.specs.declared.Requests.{Requests}
+use Rattle.model.specs.declared.Counts.{Counts}
 use Rattle.model.specs.declared.Buckets.{Buckets}
 use Rattle.model.specs.declared.State.{State}
 
@@ -21,15 +22,15 @@ withinLimits n c b = allOf (leb 1 n ∷ leb n 127 ∷ leb 1 c ∷ leb c 8 ∷ le
 unfoldable pub kindsFor : ℕ → List ℕ → Bool
 kindsFor n kinds = eqb (length kinds) n && allTo (λ i. leb (getD kinds i 0) 2) (length kinds)
 
--- the numbers that are sources, contexts, and words of 32 sources
-unfoldable pub isSource : Shape → ℕ → Bool
-isSource h i = leb 1 i && leb i (h .sources)
+-- the numbers that are sources of N, contexts of C, and words of 32 sources of N
+unfoldable pub isSource : ℕ → ℕ → Bool
+isSource n i = leb 1 i && leb i n
 
-unfoldable pub isContext : Shape → ℕ → Bool
-isContext h c = ltb c (h .contexts)
+unfoldable pub isContext : ℕ → ℕ → Bool
+isContext m c = ltb c m
 
-unfoldable pub isWord : Shape → ℕ → Bool
-isWord h w = leb w (h .sources / 32)
+unfoldable pub isWord : ℕ → ℕ → Bool
+isWord n w = leb w (n / 32)
 
 unfoldable pub kindOf : Shape → ℕ → ℕ
 kindOf h i = getD (h .kind) i 0
@@ -49,9 +50,8 @@ freshIn h = record {
     line = replicate 128 false;
     extra = replicate 128 0;
     start = replicate 128 0;
-    claims = replicate 128 0;
-    waited = replicate 128 0;
   };
+  counts = record { claims = replicate 128 0; waited = replicate 128 0 };
   buckets = record { claims = replicate 33 0; ticks = replicate 33 0 };
 }
 
@@ -70,8 +70,6 @@ pub record Request : Type 0 where
   pub line : Bool
   pub extra : ℕ
   pub start : ℕ
-  pub claims : ℕ
-  pub waited : ℕ
 
 unfoldable pub request : Requests → ℕ → Request
 request q i = record {
@@ -79,8 +77,6 @@ request q i = record {
   line = getD (q .line) i false;
   extra = getD (q .extra) i 0;
   start = getD (q .start) i 0;
-  claims = getD (q .claims) i 0;
-  waited = getD (q .waited) i 0;
 }
 
 unfoldable pub setRequest : Requests → ℕ → Request → Requests
@@ -89,8 +85,6 @@ setRequest q i r = record {
   line = set (q .line) i (r .line);
   extra = set (q .extra) i (r .extra);
   start = set (q .start) i (r .start);
-  claims = set (q .claims) i (r .claims);
-  waited = set (q .waited) i (r .waited);
 }
 
 -- what software has set
@@ -117,6 +111,7 @@ withClock s t = record {
   steps = s .steps;
   settings = s .settings;
   requests = s .requests;
+  counts = s .counts;
   buckets = s .buckets;
 }
 
@@ -127,6 +122,7 @@ withSteps s n = record {
   steps = n;
   settings = s .settings;
   requests = s .requests;
+  counts = s .counts;
   buckets = s .buckets;
 }
 
@@ -137,6 +133,7 @@ withSettings s g = record {
   steps = s .steps;
   settings = g;
   requests = s .requests;
+  counts = s .counts;
   buckets = s .buckets;
 }
 
@@ -147,15 +144,17 @@ withRequest s i r = record {
   steps = s .steps;
   settings = s .settings;
   requests = setRequest (s .requests) i r;
+  counts = s .counts;
   buckets = s .buckets;
 }
 
-unfoldable pub withBuckets : State → Buckets → State
-withBuckets s b = record {
+unfoldable pub withCounts : State → Counts → Buckets → State
+withCounts s w b = record {
   shape = s .shape;
   clock = s .clock;
   steps = s .steps;
   settings = s .settings;
   requests = s .requests;
+  counts = w;
   buckets = b;
 }

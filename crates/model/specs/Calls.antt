@@ -52,10 +52,10 @@ unfoldable pub offsetUnaligned : ℕ → Ground
 offsetUnaligned off = record { number = 5; holds = not (eqb (off % 4) 0) }
 
 unfoldable pub noSuchSource : State → ℕ → Ground
-noSuchSource s i = record { number = 6; holds = not (isSource (s .shape) i) }
+noSuchSource s i = record { number = 6; holds = not (isSource (s .shape .sources) i) }
 
 unfoldable pub noSuchContext : State → ℕ → Ground
-noSuchContext s c = record { number = 7; holds = not (isContext (s .shape) c) }
+noSuchContext s c = record { number = 7; holds = not (isContext (s .shape .contexts) c) }
 
 unfoldable pub clockPast : State → ℕ → Ground
 clockPast s n = record { number = 8; holds = ltb 4294967295 (s .clock + n) }
@@ -73,29 +73,29 @@ grounds (advance n) s = notSound s ∷ noStepLeft s ∷ clockPast s n ∷ []
 grounds (read off) s = notSound s ∷ noStepLeft s ∷ offsetAbove off ∷ offsetUnaligned off ∷ []
 grounds (write off v) s = notSound s ∷ noStepLeft s ∷ offsetAbove off ∷ offsetUnaligned off ∷ []
 grounds (notification c) s = notSound s ∷ noSuchContext s c ∷ []
-grounds mean s = notSound s ∷ nothingToDivide (boardClaims (s .requests)) ∷ []
-grounds (byClaim p) s = notSound s ∷ perMilleOutside p ∷ nothingToDivide (boardClaims (s .requests)) ∷ []
-grounds (byTime p) s = notSound s ∷ perMilleOutside p ∷ nothingToDivide (boardWaited (s .requests)) ∷ []
+grounds mean s = notSound s ∷ nothingToDivide (boardClaims (s .counts)) ∷ []
+grounds (byClaim p) s = notSound s ∷ perMilleOutside p ∷ nothingToDivide (boardClaims (s .counts)) ∷ []
+grounds (byTime p) s = notSound s ∷ perMilleOutside p ∷ nothingToDivide (boardWaited (s .counts)) ∷ []
 grounds totals s = notSound s ∷ []
 
 -- what an accepted call gives
 unfoldable pub valuesOf : Call → State → List ℕ
 valuesOf (line i v) s = 0 ∷ []
 valuesOf (advance n) s = 0 ∷ []
-valuesOf (read off) s = readOf s (decode (s .shape) off) ∷ []
+valuesOf (read off) s = readOf s (decode (s .shape .sources) (s .shape .contexts) off) ∷ []
 valuesOf (write off v) s = 0 ∷ []
 valuesOf (notification c) s = cond (notified s c) 1 0 ∷ []
-valuesOf mean s = boardWaited (s .requests) ∷ boardClaims (s .requests) ∷ []
+valuesOf mean s = boardWaited (s .counts) ∷ boardClaims (s .counts) ∷ []
 valuesOf (byClaim p) s = percentile (bucketClaims (s .buckets)) p ∷ []
 valuesOf (byTime p) s = percentile (bucketTicks (s .buckets)) p ∷ []
-valuesOf totals s = s .clock ∷ boardClaims (s .requests) ∷ boardWaited (s .requests) ∷ boardOpen (s .clock) (s .requests) ∷ []
+valuesOf totals s = s .clock ∷ boardClaims (s .counts) ∷ boardWaited (s .counts) ∷ boardOpen (s .clock) (s .requests) ∷ []
 
 -- what an accepted call does, but for the step count
 unfoldable pub effect : Call → State → State
 effect (line i v) s = lineChange s i v
 effect (advance n) s = advanced s n
-effect (read off) s = afterRead s (decode (s .shape) off)
-effect (write off v) s = afterWrite s (decode (s .shape) off) v
+effect (read off) s = afterRead s (decode (s .shape .sources) (s .shape .contexts) off)
+effect (write off v) s = afterWrite s (decode (s .shape .sources) (s .shape .contexts) off) v
 effect (notification c) s = s
 effect mean s = s
 effect (byClaim p) s = s

@@ -9,16 +9,16 @@ use lib.Dec.{leb, ltb, eqb}
 use lib.ListN.{getD}
 use Rattle.laws.specs.Fold.{allOf, anyTo, best}
 use Rattle.model.specs.declared.State.{State}
-use Rattle.model.specs.Board.{Request, request, isSource, kindOf, priority, threshold, enabled, withRequest, withBuckets, withClock}
-use Rattle.model.specs.Waits.{isIdle, isPending, isInService, wait, booked}
+use Rattle.model.specs.Board.{Request, request, isSource, kindOf, priority, threshold, enabled, withRequest, withCounts, withClock}
+use Rattle.model.specs.Waits.{isIdle, isPending, isInService, wait, counted, booked}
 
 -- the request with its line at a level
 unfoldable pub lineAt : Bool → Request → Request
-lineAt v r = record { stage = r .stage; line = v; extra = r .extra; start = r .start; claims = r .claims; waited = r .waited }
+lineAt v r = record { stage = r .stage; line = v; extra = r .extra; start = r .start }
 
 -- the request pending from now on
 unfoldable pub raised : ℕ → Request → Request
-raised clock r = record { stage = 1; line = r .line; extra = r .extra; start = clock; claims = r .claims; waited = r .waited }
+raised clock r = record { stage = 1; line = r .line; extra = r .extra; start = clock }
 
 -- "adds one to its extra edges, staying at 255 once there"
 unfoldable pub edgeCounted : Request → Request
@@ -27,8 +27,6 @@ edgeCounted r = record {
   line = r .line;
   extra = cond (ltb (r .extra) 255) (r .extra + 1) (r .extra);
   start = r .start;
-  claims = r .claims;
-  waited = r .waited;
 }
 
 -- "Level. Idle with the line high becomes pending at once. Lowering the line never withdraws a request."
@@ -55,10 +53,10 @@ advanced s n = withClock s (s .clock + n)
 
 -- a source that is pending and enabled in c
 unfoldable pub pendingFor : State → ℕ → ℕ → Bool
-pendingFor s c i = allOf (isSource (s .shape) i ∷ isPending (request (s .requests) i) ∷ enabled (s .settings) c i ∷ [])
+pendingFor s c i = allOf (isSource (s .shape .sources) i ∷ isPending (request (s .requests) i) ∷ enabled (s .settings) c i ∷ [])
 
 pub record PendingFor (s : State) (c i : ℕ) : Type 0 where
-  pub source : So (isSource (s .shape) i)
+  pub source : So (isSource (s .shape .sources) i)
   pub pending : So (isPending (request (s .requests) i))
   pub enable : So (enabled (s .settings) c i)
 
@@ -84,18 +82,14 @@ pub record Winner (s : State) (c k : ℕ) : Type 0 where
   pub lowest : (i : ℕ) → Eligible s c i → priority (s .settings) i ≡ priority (s .settings) k → k ≤ i
 
 -- "It goes into service and its wait is booked."
-unfoldable pub served : ℕ → Request → Request
-served clock r = record {
-  stage = 2;
-  line = r .line;
-  extra = r .extra;
-  start = 0;
-  claims = r .claims + 1;
-  waited = r .waited + wait clock r;
-}
+unfoldable pub served : Request → Request
+served r = record { stage = 2; line = r .line; extra = r .extra; start = 0 }
 
 unfoldable pub claimOf : State → ℕ → State
-claimOf s i = withBuckets (withRequest s i (served (s .clock) (request (s .requests) i))) (booked (s .buckets) (wait (s .clock) (request (s .requests) i)))
+claimOf s i =
+    withCounts (withRequest s i (served (request (s .requests) i)))
+    (counted (s .counts) i (wait (s .clock) (request (s .requests) i)))
+    (booked (s .buckets) (wait (s .clock) (request (s .requests) i)))
 
 -- "None: 0, nothing booked."
 unfoldable pub claimBy : State → ℕ → State
@@ -103,17 +97,17 @@ claimBy s c = cond (eqb (winner s c) 0) s (claimOf s (winner s c))
 
 -- "Completion by c with value v (all 32 bits). It takes effect exactly if v is in 1..N, enabled in c now, and in service."
 unfoldable pub takesEffect : State → ℕ → ℕ → Bool
-takesEffect s c v = allOf (isSource (s .shape) v ∷ enabled (s .settings) c v ∷ isInService (request (s .requests) v) ∷ [])
+takesEffect s c v = allOf (isSource (s .shape .sources) v ∷ enabled (s .settings) c v ∷ isInService (request (s .requests) v) ∷ [])
 
 pub record TakesEffect (s : State) (c v : ℕ) : Type 0 where
-  pub source : So (isSource (s .shape) v)
+  pub source : So (isSource (s .shape .sources) v)
   pub enable : So (enabled (s .settings) c v)
   pub service : So (isInService (request (s .requests) v))
 
 -- "Taking effect, the source is idle; then a level source with high line, or a counting source with extra edges (one fewer
 -- afterwards), is pending again in the same step."
 unfoldable pub idled : Request → Request
-idled r = record { stage = 0; line = r .line; extra = r .extra; start = 0; claims = r .claims; waited = r .waited }
+idled r = record { stage = 0; line = r .line; extra = r .extra; start = 0 }
 
 unfoldable pub edgeTaken : Request → Request
 edgeTaken r = record {
@@ -121,8 +115,6 @@ edgeTaken r = record {
   line = r .line;
   extra = r .extra - 1;
   start = r .start;
-  claims = r .claims;
-  waited = r .waited;
 }
 
 unfoldable pub completed : ℕ → ℕ → Request → Request

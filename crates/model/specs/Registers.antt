@@ -6,7 +6,6 @@ use Prim.Native.Nat.{ℕ, zero, suc, _+_, _-_, _*_, _/_, _%_, _^_, _≤_, _<_}
 use lib.Dec.{leb, ltb, eqb}
 use lib.ListN.{getD, set}
 use Rattle.laws.specs.Bits.{bit, packed}
-use Rattle.model.specs.declared.Shape.{Shape}
 use Rattle.model.specs.declared.State.{State}
 use Rattle.model.specs.declared.Settings.{Settings}
 use Rattle.model.specs.declared.Register.{Register}
@@ -15,43 +14,43 @@ use Rattle.model.specs.Board.{isSource, isContext, isWord, request, prio
 use Rattle.model.specs.Waits.{isPending}
 use Rattle.model.specs.Life.{winner, claimBy, completeBy}
 
--- the map, as the fact that a register stands at an offset
-abbrev pub StandsAt : Shape → ℕ → Register → Type 0
-StandsAt h off (Priority s) = So (isSource h s) × (off ≡ 4 * s)
-StandsAt h off (Pending w) = So (isWord h w) × (off ≡ 0x1000 + 4 * w)
-StandsAt h off (Enable c w) = So (isContext h c) × So (isWord h w) × (off ≡ 0x2000 + 0x80 * c + 4 * w)
-StandsAt h off (Threshold c) = So (isContext h c) × (off ≡ 0x200000 + 0x1000 * c)
-StandsAt h off (Claim c) = So (isContext h c) × (off ≡ 0x200004 + 0x1000 * c)
-StandsAt h off Nothing = ⊥
+-- the map for N sources and C contexts, as the fact that a register stands at an offset
+abbrev pub StandsAt : ℕ → ℕ → ℕ → Register → Type 0
+StandsAt n m off (Priority s) = So (isSource n s) × (off ≡ 4 * s)
+StandsAt n m off (Pending w) = So (isWord n w) × (off ≡ 0x1000 + 4 * w)
+StandsAt n m off (Enable c w) = So (isContext m c) × So (isWord n w) × (off ≡ 0x2000 + 0x80 * c + 4 * w)
+StandsAt n m off (Threshold c) = So (isContext m c) × (off ≡ 0x200000 + 0x1000 * c)
+StandsAt n m off (Claim c) = So (isContext m c) × (off ≡ 0x200004 + 0x1000 * c)
+StandsAt n m off Nothing = ⊥
 
 -- the map, as a decoding of an offset: "All else up to 0x3FFFFFC, including registers of absent sources and contexts", is nothing
-unfoldable pub priorityAt : Shape → ℕ → Register
-priorityAt h s = cond (isSource h s) (Priority s) Nothing
+unfoldable pub priorityAt : ℕ → ℕ → Register
+priorityAt n s = cond (isSource n s) (Priority s) Nothing
 
-unfoldable pub pendingAt : Shape → ℕ → Register
-pendingAt h w = cond (isWord h w) (Pending w) Nothing
+unfoldable pub pendingAt : ℕ → ℕ → Register
+pendingAt n w = cond (isWord n w) (Pending w) Nothing
 
-unfoldable pub enableAt : Shape → ℕ → ℕ → Register
-enableAt h c w = cond (isContext h c && isWord h w) (Enable c w) Nothing
+unfoldable pub enableAt : ℕ → ℕ → ℕ → ℕ → Register
+enableAt n m c w = cond (isContext m c && isWord n w) (Enable c w) Nothing
 
-unfoldable pub pageAt : Shape → ℕ → ℕ → Register
-pageAt h c place =
-    cond (isContext h c && eqb place 0) (Threshold c) (cond (isContext h c && eqb place 4) (Claim c) Nothing)
+unfoldable pub pageAt : ℕ → ℕ → ℕ → Register
+pageAt m c place =
+    cond (isContext m c && eqb place 0) (Threshold c) (cond (isContext m c && eqb place 4) (Claim c) Nothing)
 
-unfoldable pub decode : Shape → ℕ → Register
-decode h off =
-    cond (ltb off 0x1000) (priorityAt h (off / 4))
-    (cond (ltb off 0x2000) (pendingAt h ((off - 0x1000) / 4))
-    (cond (ltb off 0x200000) (enableAt h ((off - 0x2000) / 0x80) ((off - 0x2000) % 0x80 / 4))
-    (pageAt h ((off - 0x200000) / 0x1000) ((off - 0x200000) % 0x1000))))
+unfoldable pub decode : ℕ → ℕ → ℕ → Register
+decode n m off =
+    cond (ltb off 0x1000) (priorityAt n (off / 4))
+    (cond (ltb off 0x2000) (pendingAt n ((off - 0x1000) / 4))
+    (cond (ltb off 0x200000) (enableAt n m ((off - 0x2000) / 0x80) ((off - 0x2000) % 0x80 / 4))
+    (pageAt m ((off - 0x200000) / 0x1000) ((off - 0x200000) % 0x1000))))
 
 -- "pending bits of sources 32w to 32w + 31"
 unfoldable pub pendingWord : State → ℕ → ℕ
 pendingWord s w = packed (λ j. isPending (request (s .requests) (w * 32 + j))) 32
 
 -- "Bit 0 of word 0 and bits above N stay zero."
-unfoldable pub kept : Shape → ℕ → ℕ → ℕ
-kept h w v = packed (λ j. bit v j && isSource h (w * 32 + j)) 32
+unfoldable pub kept : ℕ → ℕ → ℕ → ℕ
+kept n w v = packed (λ j. bit v j && isSource n (w * 32 + j)) 32
 
 -- what a read gives; "reading claims"; nothing "reads 0"
 unfoldable pub readOf : State → Register → ℕ
@@ -81,7 +80,7 @@ withPriority s i v = withSettings s (record {
 unfoldable pub withEnable : State → ℕ → ℕ → ℕ → State
 withEnable s c w v = withSettings s (record {
   priority = s .settings .priority;
-  enable = set (s .settings .enable) (c * 4 + w) (kept (s .shape) w v);
+  enable = set (s .settings .enable) (c * 4 + w) (kept (s .shape .sources) w v);
   threshold = s .settings .threshold;
 })
 

@@ -15,7 +15,7 @@ use Rattle.model.specs.declared.Settings.{Settings}
 use Rattle.model.specs.declared.Requests.{Requests}
 use Rattle.model.specs.declared.State.{State}
 use Rattle.model.specs.Board.{Request, request, withinLimits, isSource, isContext, kindOf, priority, threshold, enableWord}
-use Rattle.model.specs.Waits.{isIdle, isPending, openAge, boardClaims, boardWaited, bucketClaims, bucketTicks}
+use Rattle.model.specs.Waits.{isIdle, isPending, openAge, sourceClaims, sourceWaited, boardClaims, boardWaited, bucketClaims, bucketTicks}
 use Rattle.model.specs.Registers.{kept}
 
 -- the test
@@ -30,8 +30,8 @@ typed s = allOf (
     ∷ eqb (length (s .requests .line)) 128
     ∷ eqb (length (s .requests .extra)) 128
     ∷ eqb (length (s .requests .start)) 128
-    ∷ eqb (length (s .requests .claims)) 128
-    ∷ eqb (length (s .requests .waited)) 128
+    ∷ eqb (length (s .counts .claims)) 128
+    ∷ eqb (length (s .counts .waited)) 128
     ∷ eqb (length (s .buckets .claims)) 33
     ∷ eqb (length (s .buckets .ticks)) 33
     ∷ leb (s .clock) 4294967295
@@ -39,52 +39,56 @@ typed s = allOf (
     ∷ [])
 
 -- "everything zero for source 0, sources above N"
-unfoldable pub allZero : ℕ → ℕ → Request → Bool
-allZero kind prio r = allOf (
+unfoldable pub allZero : ℕ → ℕ → ℕ → ℕ → Request → Bool
+allZero kind prio claims waited r = allOf (
     eqb kind 0
     ∷ eqb prio 0
     ∷ eqb (r .stage) 0
     ∷ not (r .line)
     ∷ eqb (r .extra) 0
     ∷ eqb (r .start) 0
-    ∷ eqb (r .claims) 0
-    ∷ eqb (r .waited) 0
+    ∷ eqb claims 0
+    ∷ eqb waited 0
     ∷ [])
 
--- the clauses on one source
-unfoldable pub soundSource : Shape → ℕ → ℕ → ℕ → Request → Bool
-soundSource h clock i prio r = allOf (
-    leb (kindOf h i) 2
-    ∷ (isSource h i || allZero (kindOf h i) prio r)
-    ∷ leb prio (2 ^ h .bits - 1)
+-- the clauses on one source, by its kind, whether it is a source of the board, the highest priority, the clock, and what it holds
+unfoldable pub soundSource : ℕ → Bool → ℕ → ℕ → ℕ → ℕ → ℕ → Request → Bool
+soundSource kind here most clock prio claims waited r = allOf (
+    leb kind 2
+    ∷ (here || allZero kind prio claims waited r)
+    ∷ leb prio most
     ∷ leb (r .stage) 2
     ∷ leb (r .start) clock
     ∷ (isPending r || eqb (r .start) 0)
     ∷ leb (r .extra) 255
-    ∷ (eqb (kindOf h i) 2 || eqb (r .extra) 0)
+    ∷ (eqb kind 2 || eqb (r .extra) 0)
     ∷ (not (isIdle r) || eqb (r .extra) 0)
-    ∷ not (eqb (kindOf h i) 0 && isIdle r && r .line)
-    ∷ leb (r .waited + openAge clock r) clock
+    ∷ not (eqb kind 0 && isIdle r && r .line)
+    ∷ leb (waited + openAge clock r) clock
     ∷ [])
+
+unfoldable pub soundSourceAt : State → ℕ → Bool
+soundSourceAt s i = soundSource (kindOf (s .shape) i) (isSource (s .shape .sources) i) (2 ^ s .shape .bits - 1) (s .clock)
+    (priority (s .settings) i) (sourceClaims (s .counts) i) (sourceWaited (s .counts) i) (request (s .requests) i)
 
 -- the clauses on one context
 unfoldable pub soundContext : Shape → Settings → ℕ → Bool
 soundContext h g c = allOf (
-    (isContext h c || eqb (threshold g c) 0)
-    ∷ (isContext h c || allTo (λ w. eqb (enableWord g c w) 0) 4)
+    (isContext (h .contexts) c || eqb (threshold g c) 0)
+    ∷ (isContext (h .contexts) c || allTo (λ w. eqb (enableWord g c w) 0) 4)
     ∷ leb (threshold g c) (2 ^ h .bits - 1)
-    ∷ allTo (λ w. eqb (enableWord g c w) (kept h w (enableWord g c w))) 4
+    ∷ allTo (λ w. eqb (enableWord g c w) (kept (h .sources) w (enableWord g c w))) 4
     ∷ [])
 
 unfoldable pub sound : State → Bool
 sound s = allOf (
     typed s
     ∷ withinLimits (s .shape .sources) (s .shape .contexts) (s .shape .bits)
-    ∷ allTo (λ i. soundSource (s .shape) (s .clock) i (priority (s .settings) i) (request (s .requests) i)) 128
+    ∷ allTo (soundSourceAt s) 128
     ∷ allTo (soundContext (s .shape) (s .settings)) 8
-    ∷ leb (boardClaims (s .requests)) (s .steps)
-    ∷ eqb (boardClaims (s .requests)) (sumTo (bucketClaims (s .buckets)) 33)
-    ∷ eqb (boardWaited (s .requests)) (sumTo (bucketTicks (s .buckets)) 33)
+    ∷ leb (boardClaims (s .counts)) (s .steps)
+    ∷ eqb (boardClaims (s .counts)) (sumTo (bucketClaims (s .buckets)) 33)
+    ∷ eqb (boardWaited (s .counts)) (sumTo (bucketTicks (s .buckets)) 33)
     ∷ [])
 
 -- the plain facts
@@ -94,8 +98,6 @@ pub record Roomy (q : Requests) : Type 0 where
   pub line : length (q .line) ≡ 128
   pub extra : length (q .extra) ≡ 128
   pub start : length (q .start) ≡ 128
-  pub claims : length (q .claims) ≡ 128
-  pub waited : length (q .waited) ≡ 128
 
 pub record Typed (s : State) : Type 0 where
   pub kind : length (s .shape .kind) ≡ 128
@@ -103,6 +105,8 @@ pub record Typed (s : State) : Type 0 where
   pub enable : length (s .settings .enable) ≡ 32
   pub threshold : length (s .settings .threshold) ≡ 8
   pub requests : Roomy (s .requests)
+  pub claims : length (s .counts .claims) ≡ 128
+  pub waited : length (s .counts .waited) ≡ 128
   pub bucketClaims : length (s .buckets .claims) ≡ 33
   pub bucketTicks : length (s .buckets .ticks) ≡ 33
   pub clock : s .clock ≤ 4294967295
@@ -114,21 +118,21 @@ pub record WithinLimits (n c b : ℕ) : Type 0 where
   pub contexts : (1 ≤ c) × (c ≤ 8)
   pub bits : (1 ≤ b) × (b ≤ 5)
 
-pub record AllZero (k p : ℕ) (r : Request) : Type 0 where
+pub record AllZero (k p c w : ℕ) (r : Request) : Type 0 where
   pub kind : k ≡ 0
   pub priority : p ≡ 0
   pub stage : r .stage ≡ 0
   pub line : r .line ≡ false
   pub extra : r .extra ≡ 0
   pub start : r .start ≡ 0
-  pub claims : r .claims ≡ 0
-  pub waited : r .waited ≡ 0
+  pub claims : c ≡ 0
+  pub waited : w ≡ 0
 
-pub record SoundSource (h : Shape) (clock i prio : ℕ) (r : Request) : Type 0 where
+pub record SoundSource (h : Shape) (clock i prio claimed waited : ℕ) (r : Request) : Type 0 where
   -- "shape within limits": a kind is at most 2
   pub kind : kindOf h i ≤ 2
   -- "everything zero for source 0, sources above N"
-  pub absent : isSource h i ≡ false → AllZero (kindOf h i) prio r
+  pub absent : isSource (h .sources) i ≡ false → AllZero (kindOf h i) prio claimed waited r
   -- "priorities .. at most 2^b − 1"
   pub priorities : prio ≤ 2 ^ h .bits - 1
   -- "each stage one of the three below"
@@ -143,24 +147,28 @@ pub record SoundSource (h : Shape) (clock i prio : ℕ) (r : Request) : Type 0 w
   -- "no level source idle with its line high"
   pub level : kindOf h i ≡ 0 → So (isIdle r) → So (r .line) → ⊥
   -- "for each source, closed waits plus open age at most the clock"
-  pub waits : r .waited + openAge clock r ≤ clock
+  pub waits : waited + openAge clock r ≤ clock
+
+abbrev pub SoundSourceAt : State → ℕ → Type 0
+SoundSourceAt s i = SoundSource (s .shape) (s .clock) i (priority (s .settings) i) (sourceClaims (s .counts) i) (sourceWaited (s .counts) i)
+    (request (s .requests) i)
 
 pub record SoundContext (h : Shape) (g : Settings) (c : ℕ) : Type 0 where
   -- "everything zero for .. contexts not below C"
-  pub absentThreshold : isContext h c ≡ false → threshold g c ≡ 0
-  pub absentEnables : isContext h c ≡ false → (w : ℕ) → w < 4 → enableWord g c w ≡ 0
+  pub absentThreshold : isContext (h .contexts) c ≡ false → threshold g c ≡ 0
+  pub absentEnables : isContext (h .contexts) c ≡ false → (w : ℕ) → w < 4 → enableWord g c w ≡ 0
   -- "thresholds at most 2^b − 1"
   pub thresholds : threshold g c ≤ 2 ^ h .bits - 1
   -- "enables only for 1..N": a set bit of a word is that of a source
-  pub enables : (w j : ℕ) → w < 4 → So (bit (enableWord g c w) j) → (j < 32) × So (isSource h (w * 32 + j))
+  pub enables : (w j : ℕ) → w < 4 → So (bit (enableWord g c w) j) → (j < 32) × So (isSource (h .sources) (w * 32 + j))
 
 pub record Sound (s : State) : Type 0 where
   pub types : Typed s
   pub limits : WithinLimits (s .shape .sources) (s .shape .contexts) (s .shape .bits)
-  pub source : (i : ℕ) → i < 128 → SoundSource (s .shape) (s .clock) i (priority (s .settings) i) (request (s .requests) i)
+  pub source : (i : ℕ) → i < 128 → SoundSourceAt s i
   pub context : (c : ℕ) → c < 8 → SoundContext (s .shape) (s .settings) c
   -- "the claims of all sources together at most the steps, and equal to the sum of bucket claims; the sum of closed waits
   -- equal to the sum of bucket ticks"
-  pub claims : boardClaims (s .requests) ≤ s .steps
-  pub claimsBooked : boardClaims (s .requests) ≡ sumTo (bucketClaims (s .buckets)) 33
-  pub ticksBooked : boardWaited (s .requests) ≡ sumTo (bucketTicks (s .buckets)) 33
+  pub claims : boardClaims (s .counts) ≤ s .steps
+  pub claimsBooked : boardClaims (s .counts) ≡ sumTo (bucketClaims (s .buckets)) 33
+  pub ticksBooked : boardWaited (s .counts) ≡ sumTo (bucketTicks (s .buckets)) 33

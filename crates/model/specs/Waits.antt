@@ -6,6 +6,7 @@ use Prim.Native.Nat.{ℕ, zero, suc, _+_, _-_, _*_, _^_, _≤_, _<_}
 use lib.Dec.{leb, ltb, eqb}
 use lib.ListN.{getD, set}
 use Rattle.laws.specs.Fold.{sumTo, firstTo}
+use Rattle.model.specs.declared.Counts.{Counts}
 use Rattle.model.specs.declared.Buckets.{Buckets}
 use Rattle.model.specs.declared.Requests.{Requests}
 use Rattle.model.specs.Board.{Request, request}
@@ -59,6 +60,19 @@ booked b w = record {
   ticks = set (b .ticks) (bucketOf w) (getD (b .ticks) (bucketOf w) 0 + w);
 }
 
+unfoldable pub sourceClaims : Counts → ℕ → ℕ
+sourceClaims w i = getD (w .claims) i 0
+
+unfoldable pub sourceWaited : Counts → ℕ → ℕ
+sourceWaited w i = getD (w .waited) i 0
+
+-- the same kept for a source: one claim more, which waited so long
+unfoldable pub counted : Counts → ℕ → ℕ → Counts
+counted c i w = record {
+  claims = set (c .claims) i (getD (c .claims) i 0 + 1);
+  waited = set (c .waited) i (getD (c .waited) i 0 + w);
+}
+
 unfoldable pub bucketClaims : Buckets → ℕ → ℕ
 bucketClaims b k = getD (b .claims) k 0
 
@@ -66,11 +80,11 @@ unfoldable pub bucketTicks : Buckets → ℕ → ℕ
 bucketTicks b k = getD (b .ticks) k 0
 
 -- "The mean report gives two whole numbers, ticks waited and claims, for the whole board; .."
-unfoldable pub boardClaims : Requests → ℕ
-boardClaims q = sumTo (λ i. request q i .claims) 128
+unfoldable pub boardClaims : Counts → ℕ
+boardClaims w = sumTo (sourceClaims w) 128
 
-unfoldable pub boardWaited : Requests → ℕ
-boardWaited q = sumTo (λ i. request q i .waited) 128
+unfoldable pub boardWaited : Counts → ℕ
+boardWaited w = sumTo (sourceWaited w) 128
 
 -- the ages still open, of all sources together
 unfoldable pub boardOpen : ℕ → Requests → ℕ

@@ -17,12 +17,16 @@ pub struct Settings {
 }
 
 // The life of each source's requests: its stage (0 idle, 1 pending, 2 in service), its line, the extra edges of a counting
-// source, the clock when it became pending, and the claims and ticks of its finished waits.
+// source, and the clock when it became pending.
 pub struct Requests {
     pub stage: [u8; 128],
     pub line: [bool; 128],
     pub extra: [u8; 128],
     pub start: [u32; 128],
+}
+
+// The finished waits of each source: how many claims, and the ticks that those waited.
+pub struct Counts {
     pub claims: [u32; 128],
     pub waited: [u32; 128],
 }
@@ -39,6 +43,7 @@ pub struct State {
     pub steps: u32,
     pub settings: Settings,
     pub requests: Requests,
+    pub counts: Counts,
     pub buckets: Buckets,
 }
 

@@ -1,0 +1,16 @@
+-- A list of numbers in which one element has changed.
+-- Assumes nothing.
+use mathlib.Core.Path.{_≡_, _∙_, sym, ap}
+use mathlib.Core.List.{List}
+use Prim.Native.Nat.{ℕ, _+_, _<_}
+use lib.ListN.{length, getD, set}
+use lib.Seq.{getD-set-same, getD-set-other}
+use Rattle.laws.specs.Fold.{sumTo}
+use Rattle.laws.proofs.Fold.{sum-change}
+
+-- a sum over a list changes by as much as the element does
+pub list-sum : (l : List ℕ) (n i x : ℕ) → i < n → i < length l →
+    sumTo (λ k. getD (set l i x) k 0) n + getD l i 0 ≡ sumTo (λ k. getD l k 0) n + x
+list-sum l n i x h k =
+    sum-change (λ j. getD l j 0) (λ j. getD (set l i x) j 0) n i h (λ j ne. sym (getD-set-other l i j x 0 ne))
+    ∙ ap (λ (y : ℕ). sumTo (λ j. getD l j 0) n + y) (getD-set-same l i x 0 k)

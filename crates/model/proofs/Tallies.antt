@@ -1,0 +1,42 @@
+-- One wait more, booked with its source and with its bucket: what it adds, and that nothing else changes.
+-- Assumes nothing.
+use mathlib.Core.Path.{_≡_, _∙_, refl, sym, ap}
+use mathlib.Core.Logic.{_≢_}
+use Prim.Native.Nat.{ℕ, _+_, _<_}
+use native.Mathlib.Omega.{arith}
+use lib.ListN.{length, getD, set}
+use lib.Seq.{getD-set-same, getD-set-other}
+use Rattle.laws.specs.Fold.{sumTo}
+use Rattle.laws.proofs.Lists.{list-sum}
+use Rattle.model.specs.declared.Counts.{Counts}
+use Rattle.model.specs.declared.Buckets.{Buckets}
+use Rattle.model.specs.Waits.{bucketOf, counted, booked, sourceClaims, sourceWaited, boardClaims, boardWaited, bucketClaims, bucketTicks}
+
+module _ (k : Counts) (i w : ℕ) where
+  pub counted-same : i < length (k .claims) → i < length (k .waited) →
+      (sourceClaims (counted k i w) i ≡ sourceClaims k i + 1) × (sourceWaited (counted k i w) i ≡ sourceWaited k i + w)
+  unfolding counted sourceClaims sourceWaited
+  counted-same a b = (getD-set-same (k .claims) i _ 0 a, getD-set-same (k .waited) i _ 0 b)
+
+  pub counted-other : (j : ℕ) → j ≢ i →
+      (sourceClaims (counted k i w) j ≡ sourceClaims k j) × (sourceWaited (counted k i w) j ≡ sourceWaited k j)
+  unfolding counted sourceClaims sourceWaited
+  counted-other j ne = (getD-set-other (k .claims) i j _ 0 ne, getD-set-other (k .waited) i j _ 0 ne)
+
+  pub counted-sums : i < 128 → length (k .claims) ≡ 128 → length (k .waited) ≡ 128 →
+      (boardClaims (counted k i w) ≡ boardClaims k + 1) × (boardWaited (counted k i w) ≡ boardWaited k + w)
+  unfolding counted boardClaims boardWaited sourceClaims sourceWaited
+  counted-sums h a b = (
+    omega (arith, list-sum (k .claims) 128 i (getD (k .claims) i 0 + 1) h (omega arith)),
+    omega (arith, list-sum (k .waited) 128 i (getD (k .waited) i 0 + w) h (omega arith)),
+  )
+
+module _ (b : Buckets) (w : ℕ) (h : bucketOf w < 33) where
+  pub booked-sums : length (b .claims) ≡ 33 → length (b .ticks) ≡ 33 →
+      (sumTo (bucketClaims (booked b w)) 33 ≡ sumTo (bucketClaims b) 33 + 1)
+      × (sumTo (bucketTicks (booked b w)) 33 ≡ sumTo (bucketTicks b) 33 + w)
+  unfolding booked bucketClaims bucketTicks
+  booked-sums c t = (
+    omega (arith, list-sum (b .claims) 33 (bucketOf w) (getD (b .claims) (bucketOf w) 0 + 1) h (omega arith)),
+    omega (arith, list-sum (b .ticks) 33 (bucketOf w) (getD (b .ticks) (bucketOf w) 0 + w) h (omega arith)),
+  )
