@@ -4,12 +4,12 @@ use mathlib.Core.Path.{_≡_, _∙_, refl, sym, ap, ap₂, subst}
 use mathlib.Core.Bool.{Bool, true, false, cond, So}
 use mathlib.Core.Logic.{_⊎_, ⊎-elim}
 use Prim.Native.Nat.{ℕ, zero, suc, _+_, _-_, _*_, _/_, _%_, _^_, _<_, _≤_}
-use native.Mathlib.Nat.{le-of-lt, le-refl, le-trans, lt-of-lt-of-le, mod-eq-of-lt, mod-lt, div-eq-of-lt, pow-suc, eq-or-lt-of-le, mod-one, add-mul-mod-self-right, one-mul, mul-comm, zero-mul, add-comm}
+use native.Mathlib.Nat.{le-of-lt, le-refl, le-trans, lt-of-lt-of-le, mod-eq-of-lt, mod-lt, div-eq-of-lt, pow-suc, eq-or-lt-of-le, mod-one, add-mul-mod-self-right, one-mul, mul-comm, zero-mul, add-comm, div-one, div-div-eq-div-mul}
 use native.Mathlib.Numerals.{add-one, one-add}
 use native.Mathlib.Omega.{arith}
 use lib.Dec.{eqb}
 use lib.Arith.{digits-div}
-use lib.Pow.{pow-pos, pow-add, pow-mono, field, split, mod-pow-add}
+use lib.Pow.{pow-pos, pow-add, pow-mono, field, mod-pow-add, mod-mod-pow}
 use borrow.Author.Tests.{eqb-true, eqb-false}
 use Rattle.laws.specs.Bits.{bit, packed}
 use Rattle.laws.proofs.Fold.{last-or-below}
@@ -109,3 +109,35 @@ bits-ext a b h =
   where
     whole : (v : ℕ) → v ≤ a + b → packed (bit v) (a + b) ≡ v
     whole v l = packed-bits v (a + b) ∙ mod-eq-of-lt (lt-of-lt-of-le (below-own-pow v) (pow-mono l))
+
+-- cutting a number to m bits leaves those below m
+pub bit-cut : (v m j : ℕ) → j < m → bit (v % 2 ^ m) j ≡ bit v j
+unfolding bit
+bit-cut v m j h =
+    let m-is : m ≡ m - suc j + suc j = omega arith in
+    ap (λ (x : ℕ). eqb x 1)
+    (bit-low (v % 2 ^ m) j
+    ∙ ap (λ (x : ℕ). x / 2 ^ j) (ap (λ (k : ℕ). v % 2 ^ k % 2 ^ suc j) m-is ∙ mod-mod-pow v (m - suc j) (suc j))
+    ∙ sym (bit-low v j))
+
+-- taking the lowest bit off leaves the others
+pub bit-even-zero : (v : ℕ) → bit (v - v % 2) 0 ≡ false
+unfolding bit
+bit-even-zero v = ap (λ (x : ℕ). eqb x 1) (ap (λ (x : ℕ). x % 2) (div-one (v - v % 2)) ∙ even)
+  where
+    even : (v - v % 2) % 2 ≡ 0
+    even = omega arith
+
+pub bit-even-suc : (v j : ℕ) → bit (v - v % 2) (suc j) ≡ bit v (suc j)
+unfolding bit
+bit-even-suc v j = ap (λ (x : ℕ). eqb (x % 2) 1) (halves (v - v % 2) ∙ ap (λ (x : ℕ). x / 2 ^ j) half ∙ sym (halves v))
+  where
+    half : (v - v % 2) / 2 ≡ v / 2
+    half = omega arith
+    halves : (x : ℕ) → x / 2 ^ suc j ≡ x / 2 / 2 ^ j
+    halves x = ap (λ (y : ℕ). x / y) (pow-suc 2 j ∙ mul-comm (2 ^ j) 2) ∙ sym (div-div-eq-div-mul x 2 (2 ^ j))
+
+-- one bit more, as the code counts
+pub packed-more : (f : ℕ → Bool) (n : ℕ) → packed f (n + 1) ≡ packed f n + cond (f n) (2 ^ n) 0
+unfolding packed
+packed-more f n = ap (packed f) (add-one n)

@@ -1,12 +1,13 @@
 -- The laws of the folds of specs/Fold: what each means at an index, and that a change at one index changes a sum by as much.
 -- Assumes nothing.
 use mathlib.Core.Path.{_≡_, _∙_, refl, sym, ap, ap₂, subst}
-use mathlib.Core.Bool.{Bool, true, false, cond, So}
+use mathlib.Core.Bool.{Bool, true, false, cond, _&&_, _||_, So}
 use mathlib.Core.Logic.{_⊎_, ⊎-elim, _≢_}
 use mathlib.Core.List.{List, [], _∷_}
 use lib.ListN.{getD}
 use Prim.Native.Nat.{ℕ, zero, suc, _+_, _*_, _<_, _≤_}
 use native.Mathlib.Nat.{not-suc-le-zero, eq-or-lt-of-le, le-of-suc-le-suc, le-refl, lt-irrefl, le-antisymm}
+use native.Mathlib.Numerals.{add-one}
 use native.Mathlib.Omega.{arith}
 use lib.Dec.{ltb}
 use borrow.Author.Tests.{ltb-true, ltb-false}
@@ -186,3 +187,21 @@ best-once f n {j} {k} a b = le-antisymm (not-after a b) (not-after b a)
         (λ t. absurd (lt-irrefl (f x) (omega (arith, p .lowest y (ltb-true y x t), q .highest x (p .within)))))
         (ltb-false y x)
         (dichotomy (ltb y x))
+
+-- one index more, as the code counts
+
+pub sum-more : (f : ℕ → ℕ) (i : ℕ) → sumTo f (i + 1) ≡ sumTo f i + f i
+unfolding sumTo
+sum-more f i = ap (sumTo f) (add-one i)
+
+pub all-more : (f : ℕ → Bool) (i : ℕ) → allTo f (i + 1) ≡ (allTo f i && f i)
+unfolding allTo
+all-more f i = ap (allTo f) (add-one i)
+
+pub any-more : (f : ℕ → Bool) (i : ℕ) → anyTo f (i + 1) ≡ (anyTo f i || f i)
+unfolding anyTo
+any-more f i = ap (anyTo f) (add-one i)
+
+pub best-more : (f : ℕ → ℕ) (i : ℕ) → best f (i + 1) ≡ cond (ltb (f (best f i)) (f i)) i (best f i)
+unfolding best
+best-more f i = ap (best f) (add-one i)

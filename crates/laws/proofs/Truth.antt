@@ -37,6 +37,13 @@ pub and-right : (a b : Bool) → So (a && b) → So b
 and-right true b h = h
 and-right false b h = absurd (false≢true h)
 
+pub and-fails-left : {a : Bool} (b : Bool) → a ≡ false → (a && b) ≡ false
+and-fails-left b e = subst (λ (x : Bool). (x && b) ≡ false) (sym e) refl
+
+pub and-fails-right : (a : Bool) {b : Bool} → b ≡ false → (a && b) ≡ false
+and-fails-right true e = e
+and-fails-right false e = refl
+
 pub or-left : (a b : Bool) → So a → So (a || b)
 or-left true b h = refl
 or-left false b h = absurd (false≢true h)

@@ -21,7 +21,8 @@ use Rattle.model.specs.declared.Requests.{Requests}
 use Rattle.model.specs.declared.Counts.{Counts}
 use Rattle.model.specs.declared.Buckets.{Buckets}
 use Rattle.model.specs.declared.State.{State}
-use Rattle.model.specs.Board.{Request, request, setRequest, isSource, isContext, kindOf, priority, threshold, enableWord, withClock, withSteps, withSettings, withRequest, withCounts}
+use Rattle.model.specs.declared.Request.{Request}
+use Rattle.model.specs.Board.{request, setRequest, isSource, isContext, kindOf, priority, threshold, enableWord, withClock, withSteps, withSettings, withRequest, withCounts}
 use Rattle.model.specs.Waits.{isPending, openAge, sourceClaims, sourceWaited, boardClaims, boardWaited, bucketClaims, bucketTicks}
 use Rattle.model.specs.Registers.{kept, withPriority, withEnable, withThreshold}
 use Rattle.model.specs.Sound.{Roomy, Typed, AllZero, SoundSource, SoundContext, Sound}

@@ -13,7 +13,8 @@ use Rattle.laws.specs.Fold.{allOf, anyTo, best, Best}
 use Rattle.laws.proofs.Truth.{dichotomy, not-so, and-intro, and-left, and-right, cond-so, cond-not}
 use Rattle.laws.proofs.Fold.{test-at, any-of, any-at, best-is, best-once}
 use Rattle.model.specs.declared.State.{State}
-use Rattle.model.specs.Board.{Request, request, isSource, priority, threshold, enabled, enableWord, withSettings}
+use Rattle.model.specs.declared.Request.{Request}
+use Rattle.model.specs.Board.{request, isSource, priority, threshold, enabled, enableWord, withSettings}
 use Rattle.model.specs.Waits.{isPending}
 use Rattle.model.specs.Life.{pendingFor, PendingFor, eligible, Eligible, rank, winner, Winner, rouses, Rouses, notified}
 

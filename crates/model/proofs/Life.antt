@@ -14,7 +14,8 @@ use mathlib.Core.List.{[], _∷_}
 use Rattle.model.specs.declared.Shape.{Shape}
 use Rattle.model.specs.declared.Requests.{Requests}
 use Rattle.model.specs.declared.State.{State}
-use Rattle.model.specs.Board.{Request, request, setRequest, isSource, kindOf, priority, withRequest}
+use Rattle.model.specs.declared.Request.{Request}
+use Rattle.model.specs.Board.{request, setRequest, isSource, kindOf, priority, withRequest}
 use Rattle.model.specs.Waits.{isIdle, isPending, isInService, openAge, wait, sourceClaims, sourceWaited}
 use Rattle.model.specs.Life.{lineAt, raised, edgeCounted, levelChanged, edgeChanged, lineChanged, lineChange, served, takesEffect, TakesEffect, idled, edgeTaken, completed}
 use Rattle.model.specs.Sound.{SoundSource, Sound}
@@ -165,6 +166,13 @@ module _ (h : Shape) (clock i prio claimed waited : ℕ) (source : So (isSource 
           (λ t. omega (arith, ltb-false 0 (r .extra) t)) (dichotomy (ltb 0 (r .extra))))
           (λ other. f .counting (eqb-false _ _ other))
           (dichotomy (eqb (kindOf h i) 2))
+
+-- a completion leaves the line as it is
+pub completed-line : (kind clock : ℕ) (r : Request) → completed kind clock r .line ≡ r .line
+unfolding completed raised edgeTaken idled
+completed-line kind clock r =
+    cond-elim (λ (k : Request). k .line ≡ r .line) (eqb kind 0 && r .line) (λ _. refl)
+    (λ _. cond-elim (λ (k : Request). k .line ≡ r .line) (eqb kind 2 && ltb 0 (r .extra)) (λ _. refl) (λ _. refl))
 
 -- "Repeating the present level has no effect"
 repeated : (h : Shape) (clock i prio claimed waited : ℕ) (r : Request) → SoundSource h clock i prio claimed waited r → lineChanged (kindOf h i) clock (r .line) r ≡ r

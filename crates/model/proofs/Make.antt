@@ -18,7 +18,8 @@ use Rattle.laws.proofs.Fold.{all-at, sum-zero}
 use Rattle.laws.proofs.Bits.{bit-above}
 use Rattle.model.specs.declared.Shape.{Shape}
 use Rattle.model.specs.declared.State.{State}
-use Rattle.model.specs.Board.{Request, request, priority, threshold, enableWord, withinLimits, kindsFor, isSource, isContext, kindOf, zeroShape, zeroState, freshIn, shapeOf}
+use Rattle.model.specs.declared.Request.{Request}
+use Rattle.model.specs.Board.{request, priority, threshold, enableWord, withinLimits, kindsFor, isSource, isContext, kindOf, zeroShape, zeroState, freshIn, shapeOf}
 use Rattle.model.specs.Refusals.{firstOf}
 use Rattle.model.specs.Waits.{isPending, isIdle, openAge, sourceClaims, sourceWaited, boardClaims, boardWaited, bucketClaims, bucketTicks}
 use Rattle.model.specs.Sound.{WithinLimits, AllZero, SoundSource, SoundContext, Sound}

@@ -17,7 +17,8 @@ use Rattle.laws.proofs.Bits.{bit-packed, bit-above, packed-lt, bits-ext}
 use Rattle.model.specs.declared.Shape.{Shape}
 use Rattle.model.specs.declared.Settings.{Settings}
 use Rattle.model.specs.declared.State.{State}
-use Rattle.model.specs.Board.{Request, request, withinLimits, isSource, isContext, kindOf, priority, threshold, enableWord}
+use Rattle.model.specs.declared.Request.{Request}
+use Rattle.model.specs.Board.{request, withinLimits, isSource, isContext, kindOf, priority, threshold, enableWord}
 use Rattle.model.specs.Waits.{isIdle, isPending, openAge, boardClaims, boardWaited, bucketClaims, bucketTicks}
 use Rattle.model.specs.Registers.{kept}
 use Rattle.model.specs.Sound.{typed, allZero, soundSource, soundSourceAt, soundContext, sound, Typed, WithinLimits, AllZero, SoundSource, SoundSourceAt, SoundContext, Sound}

@@ -15,7 +15,8 @@ use Rattle.model.specs.declared.Buckets.{Buckets}
 use Rattle.model.specs.declared.State.{State}
 use Rattle.model.specs.declared.Register.{Register}
 use Rattle.model.specs.declared.Register.the-variants.{Priority, Pending, Enable, Threshold, Claim, Nothing}
-use Rattle.model.specs.Board.{Request, request, setRequest, isSource, isContext, isWord, kindOf, priority, enabled, withSteps, withRequest, withCounts, withClock, withSettings}
+use Rattle.model.specs.declared.Request.{Request}
+use Rattle.model.specs.Board.{request, setRequest, isSource, isContext, isWord, kindOf, priority, enabled, withSteps, withRequest, withCounts, withClock, withSettings}
 use Rattle.model.specs.Waits.{isIdle, isPending, isInService, wait, bucketOf, counted, booked, sourceClaims, sourceWaited, boardClaims, boardWaited, bucketClaims, bucketTicks}
 use Rattle.model.specs.Life.{lineAt, raised, edgeCounted, levelChanged, edgeChanged, lineChanged, lineChange, advanced, winner, served, claimOf, claimBy, takesEffect, idled, edgeTaken, completed, completeBy}
 use Rattle.model.specs.Registers.{StandsAt, decode, afterRead, afterWrite, withPriority, withEnable, withThreshold}

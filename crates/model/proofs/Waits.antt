@@ -73,3 +73,14 @@ module _ (w : ℕ) where
 
   pub bucket-holds : w ≤ 4294967295 → Holds (bucketOf w) w
   bucket-holds most = bucket-iff most (bucketOf w) .0 refl
+
+  -- what a search of the table finds: the first upper end that is not passed
+  pub bucket-found : (k : ℕ) → k < 33 → ((j : ℕ) → j < k → upperEnd j < w) → w ≤ upperEnd k → k ≡ bucketOf w
+  unfolding bucketOf test
+  bucket-found k h passed here = first-once test 33
+      (record {
+          within = omega arith;
+          before = λ j l t. absurd (omega (arith, passed j l, leb-true w (upperEnd j) t));
+          found = λ _. le-leb w (upperEnd k) here
+      })
+      (first-is test 33)

@@ -9,6 +9,7 @@ use Rattle.laws.specs.Fold.{allTo, allOf}
 use Rattle.laws.specs.Bits.{bit}
 use Rattle.model.specs.declared.Shape.{Shape}
 use Rattle.model.specs.declared.Settings.{Settings}
+use Rattle.model.specs.declared.Request.{Request}
 use Rattle.model.specs.declared.Requests.{Requests}
 use Rattle.model.specs.declared.Counts.{Counts}
 use Rattle.model.specs.declared.Buckets.{Buckets}
@@ -64,12 +65,6 @@ unfoldable pub shapeOf : ℕ → ℕ → ℕ → List ℕ → Shape
 shapeOf n c b kinds = record { sources = n; contexts = c; bits = b; kind = 0 ∷ (kinds ++ replicate (127 - length kinds) 0) }
 
 -- one source's request, read out of the state and put back
-
-pub record Request : Type 0 where
-  pub stage : ℕ
-  pub line : Bool
-  pub extra : ℕ
-  pub start : ℕ
 
 unfoldable pub request : Requests → ℕ → Request
 request q i = record {

@@ -9,7 +9,8 @@ use lib.Dec.{leb, ltb, eqb}
 use lib.ListN.{getD}
 use Rattle.laws.specs.Fold.{allOf, anyTo, best}
 use Rattle.model.specs.declared.State.{State}
-use Rattle.model.specs.Board.{Request, request, isSource, kindOf, priority, threshold, enabled, withRequest, withCounts, withClock}
+use Rattle.model.specs.declared.Request.{Request}
+use Rattle.model.specs.Board.{request, isSource, kindOf, priority, threshold, enabled, withRequest, withCounts, withClock}
 use Rattle.model.specs.Waits.{isIdle, isPending, isInService, wait, counted, booked}
 
 -- the request with its line at a level

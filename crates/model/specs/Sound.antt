@@ -14,7 +14,8 @@ use Rattle.model.specs.declared.Shape.{Shape}
 use Rattle.model.specs.declared.Settings.{Settings}
 use Rattle.model.specs.declared.Requests.{Requests}
 use Rattle.model.specs.declared.State.{State}
-use Rattle.model.specs.Board.{Request, request, withinLimits, isSource, isContext, kindOf, priority, threshold, enableWord}
+use Rattle.model.specs.declared.Request.{Request}
+use Rattle.model.specs.Board.{request, withinLimits, isSource, isContext, kindOf, priority, threshold, enableWord}
 use Rattle.model.specs.Waits.{isIdle, isPending, openAge, sourceClaims, sourceWaited, boardClaims, boardWaited, bucketClaims, bucketTicks}
 use Rattle.model.specs.Registers.{kept}
 

@@ -16,8 +16,16 @@ pub struct Settings {
     pub threshold: [u8; 8],
 }
 
-// The life of each source's requests: its stage (0 idle, 1 pending, 2 in service), its line, the extra edges of a counting
+// The life of one source's request: its stage (0 idle, 1 pending, 2 in service), its line, the extra edges of a counting
 // source, and the clock when it became pending.
+pub struct Request {
+    pub stage: u8,
+    pub line: bool,
+    pub extra: u8,
+    pub start: u32,
+}
+
+// The same for each source.
 pub struct Requests {
     pub stage: [u8; 128],
     pub line: [bool; 128],
