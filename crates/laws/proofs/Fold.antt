@@ -1,12 +1,12 @@
 -- The laws of the folds of specs/Fold: what each means at an index, and that a change at one index changes a sum by as much.
 -- Assumes nothing.
 use mathlib.Core.Path.{_≡_, _∙_, refl, sym, ap, ap₂, subst}
-use mathlib.Core.Bool.{Bool, true, false, cond, _&&_, _||_, So}
+use mathlib.Core.Bool.{Bool, true, false, cond, _&&_, _||_, So, and-true, and-assoc}
 use mathlib.Core.Logic.{_⊎_, ⊎-elim, _≢_}
 use mathlib.Core.List.{List, [], _∷_}
 use lib.ListN.{getD}
 use Prim.Native.Nat.{ℕ, zero, suc, _+_, _*_, _<_, _≤_}
-use native.Mathlib.Nat.{not-suc-le-zero, eq-or-lt-of-le, le-of-suc-le-suc, le-refl, lt-irrefl, le-antisymm}
+use native.Mathlib.Nat.{not-suc-le-zero, eq-or-lt-of-le, le-of-suc-le-suc, le-refl, le-of-eq, lt-irrefl, le-antisymm}
 use native.Mathlib.Numerals.{add-one}
 use native.Mathlib.Omega.{arith}
 use lib.Dec.{ltb}
@@ -44,6 +44,14 @@ sum-zero f (suc n) h =
     let ih : sumTo f n ≡ 0 = sum-zero f n (λ i k. h i (omega arith)) in
     let hn : f n ≡ 0 = h n (omega arith) in
     omega arith
+
+pub sum-mono : (f : ℕ → ℕ) (m n : ℕ) → m ≤ n → sumTo f m ≤ sumTo f n
+unfolding sumTo
+sum-mono f m zero h = le-of-eq (ap (sumTo f) (le-antisymm h (omega arith)))
+sum-mono f m (suc n) h = ⊎-elim
+    (λ (e : m ≡ suc n). le-of-eq (ap (sumTo f) e))
+    (λ (k : m < suc n). omega (arith, sum-mono f m n (omega arith)))
+    (eq-or-lt-of-le h)
 
 pub sum-add : (f g : ℕ → ℕ) (n : ℕ) → sumTo (λ i. f i + g i) n ≡ sumTo f n + sumTo g n
 unfolding sumTo
@@ -88,6 +96,16 @@ unfolding allOf
 test-at [] h k = refl
 test-at (t ∷ ts) h zero = and-left t (allOf ts) h
 test-at (t ∷ ts) h (suc k) = test-at ts (and-right t (allOf ts) h) k
+
+-- tests joined from the left, as code joins them
+abbrev pub joined : Bool → List Bool → Bool
+joined t [] = t
+joined t (u ∷ us) = joined (t && u) us
+
+pub joined-all : (t : Bool) (us : List Bool) → joined t us ≡ allOf (t ∷ us)
+unfolding allOf
+joined-all t [] = sym (and-true t)
+joined-all t (u ∷ us) = joined-all (t && u) us ∙ and-assoc t u (allOf us)
 
 pub any-of : (f : ℕ → Bool) (n i : ℕ) → i < n → So (f i) → So (anyTo f n)
 unfolding anyTo

@@ -10,7 +10,7 @@ use lib.Dec.{ltb}
 use lib.Pow.{pow-pos}
 use borrow.Author.Tests.{ltb-true, ltb-false}
 use Rattle.laws.specs.Bits.{bit}
-use Rattle.laws.proofs.Truth.{dichotomy, not-so, so-not}
+use Rattle.laws.proofs.Truth.{dichotomy, not-so, so-not, and-fails-right}
 use Rattle.laws.proofs.Bits.{bits-ext, bit-cut, bit-above, bit-even-zero, bit-even-suc}
 use Rattle.model.specs.Board.{isSource}
 use Rattle.model.specs.Registers.{kept}
@@ -58,3 +58,15 @@ kept-first n v fits = bits-ext _ _ each
         ∙ ap (λ (b : Bool). bit v 0 && b) (so-not (isSource n 0) (λ s. absurd (omega (arith, source-range n 0 s .0))))
         ∙ and-false (bit v 0) ∙ sym (bit-even-zero low)
     each (suc j) = place n 0 v (suc j) (omega arith) (omega arith) fits ∙ ap (λ (m : ℕ). bit (v % 2 ^ m) (suc j)) same ∙ sym (bit-even-suc low j)
+
+-- a word above N's
+pub kept-none : (n w v : ℕ) → n < w * 32 → kept n w v ≡ 0
+kept-none n w v h = bits-ext (kept n w v) 0 (λ j. none j ∙ sym (bit-above 0 0 j (omega arith) (omega arith)))
+  where
+    none : (j : ℕ) → bit (kept n w v) j ≡ false
+    none j = ⊎-elim
+        (λ (t : So (ltb j 32)).
+            kept-bit n w v j (ltb-true j 32 t)
+            ∙ and-fails-right (bit v j) (so-not (isSource n (w * 32 + j)) (λ s. absurd (omega (arith, source-range n (w * 32 + j) s .1)))))
+        (λ t. kept-above n w v j (ltb-false j 32 t))
+        (dichotomy (ltb j 32))

@@ -3,6 +3,7 @@
 mod arbiter;
 mod life;
 mod registers;
+mod sound;
 mod steps;
 mod waits;
 mod words;

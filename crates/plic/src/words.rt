@@ -6,6 +6,13 @@ ghost use Rattle.laws.specs.Bits.{bit};
 ghost use Rattle.model.specs.Registers.{kept};
 ghost use Rattle.plic.specs.Leaves.{enabledIn, pendingWordIn};
 
+// A number of 32 bits as one of 64.
+pub(crate) fn wide(x: u32) -> u64
+    ensures { λ r. ⌜ (r ≡ x) × (r ≤ 4294967295) ⌝ }
+{
+    x as u64
+}
+
 // 2 to the power j.
 pub(crate) fn power(j: u32) -> u64
     requires { ⌜ j < 33 ⌝ }

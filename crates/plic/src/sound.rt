@@ -1,0 +1,176 @@
+// Whether a state is sound: each clause of the definition, computed on any contents. Loops over lent arrays; nothing rolls over.
+use crate::words::kept_bits;
+use crate::words::wide;
+use model::Request;
+
+ghost use mathlib.Core.Path.{_≡_};
+ghost use mathlib.Core.Bool.{Bool};
+ghost use Prim.Native.Nat.{ℕ, _+_, _*_, _≤_, _<_};
+ghost use lib.Dec.{eqb};
+ghost use lib.ListN.{getD};
+ghost use Rattle.laws.specs.Fold.{sumTo, allTo};
+ghost use Rattle.model.specs.Registers.{kept};
+ghost use Rattle.model.specs.Sound.{soundSource};
+ghost use Rattle.plic.specs.Leaves.{openAgeIn, soundSourceIn, soundContextIn};
+
+// The ticks from the step that set the pending bit to now, where it is set.
+pub(crate) fn open_age(clock: u32, stage: u8, start: u32) -> u32
+    ensures { λ r. ⌜ r ≡ openAgeIn clock stage start ⌝ }
+{
+    if stage == 1 {
+        if start <= clock {
+            return clock - start;
+        }
+    }
+    0
+}
+
+// The clauses on one source.
+fn source_sound(kind: u8, here: bool, most: u8, clock: u32, priority: u8, claims: u32, waited: u32, r: Request) -> bool
+    ensures { λ k. ⌜ k ≡ soundSource kind here most clock priority claims waited r ⌝ }
+{
+    let pending = r.stage == 1;
+    let idle = r.stage == 0;
+    let age = open_age(clock, r.stage, r.start);
+    let zero = (kind == 0) & (priority == 0) & idle & !r.line & (r.extra == 0) & (r.start == 0) & (claims == 0) & (waited == 0);
+    (kind <= 2) & (here | zero) & (priority <= most) & (r.stage <= 2) & (r.start <= clock) & (pending | (r.start == 0)) & (r.extra <= 255) & ((kind == 2) | (r.extra == 0)) & (!idle | (r.extra == 0)) & !((kind == 0) & idle & r.line) & ((waited as u64) + (age as u64) <= (clock as u64))
+}
+
+// The clauses on source i.
+fn source_sound_at<'a>(n: u32, most: u8, clock: u32, kind: &'a [u8; 128], priority: &'a [u8; 128], stage: &'a [u8; 128], line: &'a [bool; 128], extra: &'a [u8; 128], start: &'a [u32; 128], claims: &'a [u32; 128], waited: &'a [u32; 128], i: usize) -> bool
+    requires { ⌜ i < 128 ⌝ }
+    ensures { λ r. ⌜ r ≡ soundSourceIn n most clock (now (kind .entry)) (now (priority .entry)) (now (stage .entry)) (now (line .entry)) (now (extra .entry)) (now (start .entry)) (now (claims .entry)) (now (waited .entry)) i ⌝ }
+{
+    let here = (1 <= i) & (i <= n as usize);
+    let r = Request {
+        stage: stage[i],
+        line: line[i],
+        extra: extra[i],
+        start: start[i],
+    };
+    source_sound(kind[i], here, most, clock, priority[i], claims[i], waited[i], r)
+}
+
+// The clauses on every source.
+fn sources_sound<'a>(n: u32, most: u8, clock: u32, kind: &'a [u8; 128], priority: &'a [u8; 128], stage: &'a [u8; 128], line: &'a [bool; 128], extra: &'a [u8; 128], start: &'a [u32; 128], claims: &'a [u32; 128], waited: &'a [u32; 128]) -> bool
+    ensures { λ r. ⌜ r ≡ allTo (soundSourceIn n most clock (now (kind .entry)) (now (priority .entry)) (now (stage .entry)) (now (line .entry)) (now (extra .entry)) (now (start .entry)) (now (claims .entry)) (now (waited .entry))) 128 ⌝ }
+{
+    let mut sound = true;
+    let mut i: usize = 0;
+    while i < 128 {
+        let one = source_sound_at(n, most, clock, kind, priority, stage, line, extra, start, claims, waited, i);
+        sound = sound & one;
+        i += 1;
+    }
+    sound
+}
+
+// A word of enables as it would be kept, for any word.
+fn kept_word(n: u32, w: u32, v: u32) -> u32
+    requires { ⌜ (n ≤ 127) × (w < 4) ⌝ }
+    ensures { λ r. ⌜ r ≡ kept n w v ⌝ }
+{
+    if w <= n / 32 {
+        return kept_bits(n, w, v);
+    }
+    0
+}
+
+// Whether a context's four words are zero.
+fn words_zero(enable: &[u32; 32], c: usize) -> bool
+    requires { ⌜ c < 8 ⌝ }
+    ensures { λ r. ⌜ r ≡ allTo (λ w. eqb (getD (now (enable .entry)) (c * 4 + w) 0) 0) 4 ⌝ }
+{
+    let mut zero = true;
+    let mut w: usize = 0;
+    while w < 4 {
+        zero = zero & (enable[c * 4 + w] == 0);
+        w += 1;
+    }
+    zero
+}
+
+// Whether a context's four words have bits of sources alone.
+fn words_kept(n: u32, enable: &[u32; 32], c: usize) -> bool
+    requires { ⌜ (n ≤ 127) × (c < 8) ⌝ }
+    ensures { λ r. ⌜ r ≡ allTo (λ w. eqb (getD (now (enable .entry)) (c * 4 + w) 0) (kept n w (getD (now (enable .entry)) (c * 4 + w) 0))) 4 ⌝ }
+{
+    let mut right = true;
+    let mut w: usize = 0;
+    while w < 4 {
+        let word = enable[c * 4 + w];
+        let kept = kept_word(n, w as u32, word);
+        right = right & (word == kept);
+        w += 1;
+    }
+    right
+}
+
+// The clauses on one context.
+fn context_sound<'a>(n: u32, m: u32, most: u8, enable: &'a [u32; 32], threshold: &'a [u8; 8], c: usize) -> bool
+    requires { ⌜ (n ≤ 127) × (c < 8) ⌝ }
+    ensures { λ r. ⌜ r ≡ soundContextIn n m most (now (enable .entry)) (now (threshold .entry)) c ⌝ }
+{
+    let here = (c as u32) < m;
+    let limit = threshold[c];
+    let zero = words_zero(enable, c);
+    let right = words_kept(n, enable, c);
+    (here | (limit == 0)) & (here | zero) & (limit <= most) & right
+}
+
+// The clauses on every context.
+fn contexts_sound<'a>(n: u32, m: u32, most: u8, enable: &'a [u32; 32], threshold: &'a [u8; 8]) -> bool
+    requires { ⌜ n ≤ 127 ⌝ }
+    ensures { λ r. ⌜ r ≡ allTo (soundContextIn n m most (now (enable .entry)) (now (threshold .entry))) 8 ⌝ }
+{
+    let mut sound = true;
+    let mut c: usize = 0;
+    while c < 8 {
+        let one = context_sound(n, m, most, enable, threshold, c);
+        sound = sound & one;
+        c += 1;
+    }
+    sound
+}
+
+// The sum over all sources.
+pub(crate) fn source_total(counts: &[u32; 128]) -> u64
+    ensures { λ r. ⌜ r ≡ sumTo (λ i. getD (now (counts .entry)) i 0) 128 ⌝ }
+{
+    let mut total: u64 = 0;
+    let mut i: usize = 0;
+    while i < 128 {
+        total += wide(counts[i]);
+        i += 1;
+    }
+    total
+}
+
+// The sum of the buckets' claims.
+fn bucket_total(counts: &[u32; 33]) -> u64
+    ensures { λ r. ⌜ r ≡ sumTo (λ k. getD (now (counts .entry)) k 0) 33 ⌝ }
+{
+    let mut total: u64 = 0;
+    let mut k: usize = 0;
+    while k < 33 {
+        total += wide(counts[k]);
+        k += 1;
+    }
+    total
+}
+
+// Whether the buckets' ticks come to a total: each is taken off what is left of it, so that no sum is formed that could not fit.
+fn ticks_come_to(ticks: &[u64; 33], total: u64) -> bool
+    ensures { λ r. ⌜ r ≡ eqb total (sumTo (λ k. getD (now (ticks .entry)) k 0) 33) ⌝ }
+{
+    let mut left = total;
+    let mut k: usize = 0;
+    while k < 33 {
+        if left < ticks[k] {
+            return false;
+        }
+        left -= ticks[k];
+        k += 1;
+    }
+    left == 0
+}
