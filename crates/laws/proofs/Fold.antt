@@ -37,6 +37,11 @@ sum-le f g (suc n) h =
     let hn : f n ≤ g n = h n (omega arith) in
     omega arith
 
+pub sum-bound : (f : ℕ → ℕ) (n m : ℕ) → ((i : ℕ) → i < n → f i ≤ m) → sumTo f n ≤ n * m
+unfolding sumTo
+sum-bound f zero m h = omega arith
+sum-bound f (suc n) m h = omega (arith, sum-bound f n m (λ i k. h i (omega arith)), h n (omega arith))
+
 pub sum-zero : (f : ℕ → ℕ) (n : ℕ) → ((i : ℕ) → i < n → f i ≡ 0) → sumTo f n ≡ 0
 unfolding sumTo
 sum-zero f zero h = refl

@@ -67,3 +67,8 @@ module _ {ℓ} {A : Type ℓ} where
 pub cond-elim {ℓ} : {A : Type ℓ} (P : A → Type 0) (b : Bool) {x y : A} → (So b → P x) → (b ≡ false → P y) → P (cond b x y)
 cond-elim P true f g = f refl
 cond-elim P false f g = g refl
+
+-- a function of a choice is the choice of what it gives
+pub cond-ap {ℓ ℓ′} : {A : Type ℓ} {B : Type ℓ′} (f : A → B) (b : Bool) (x y : A) → f (cond b x y) ≡ cond b (f x) (f y)
+cond-ap f true x y = refl
+cond-ap f false x y = refl

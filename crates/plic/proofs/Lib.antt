@@ -1,3 +1,4 @@
 pub mod Kept
 pub mod Ranks
 pub mod Effects
+pub mod Sounds

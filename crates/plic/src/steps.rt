@@ -71,7 +71,7 @@ pub(crate) fn complete_by(n: u32, c: usize, v: u32, clock: u32, kind: &[u8; 128]
 // A claim by context c: the winner goes into service and its wait is booked; 0 where nothing is eligible.
 pub(crate) fn claim(n: usize, c: usize, clock: u32, priority: &[u8; 128], enable: &[u32; 32], stage: &mut [u8; 128], start: &mut [u32; 128], claims: &mut [u32; 128], waited: &mut [u32; 128], bucket_claims: &mut [u32; 33], bucket_ticks: &mut [u64; 33]) -> usize
     requires { ⌜ (n < 128) × (c < 8) × Bookable clock (now stage) (now start) (now claims) (now waited) (now «bucket_claims») (now «bucket_ticks») ⌝ }
-    ensures { λ w. ⌜ (w ≡ winnerIn n (now (stage .entry)) (now (priority .entry)) (now (enable .entry)) c) × Claimed clock w (now (stage .entry)) (now (start .entry)) (now (stage .exit)) (now (start .exit)) (countsOf (now (claims .entry)) (now (waited .entry))) (countsOf (now (claims .exit)) (now (waited .exit))) (bucketsOf (now («bucket_claims» .entry)) (now («bucket_ticks» .entry))) (bucketsOf (now («bucket_claims» .exit)) (now («bucket_ticks» .exit))) ⌝ }
+    ensures { λ w. ⌜ (w ≡ winnerIn n (now (stage .entry)) (now (priority .entry)) (now (enable .entry)) c) × (w < 128) × Claimed clock w (now (stage .entry)) (now (start .entry)) (now (stage .exit)) (now (start .exit)) (countsOf (now (claims .entry)) (now (waited .entry))) (countsOf (now (claims .exit)) (now (waited .exit))) (bucketsOf (now («bucket_claims» .entry)) (now («bucket_ticks» .entry))) (bucketsOf (now («bucket_claims» .exit)) (now («bucket_ticks» .exit))) ⌝ }
 {
     let w = winner(stage, priority, enable, n, c);
     if w == 0 {

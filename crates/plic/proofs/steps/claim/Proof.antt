@@ -28,7 +28,7 @@ winner-requires : tie.Need-winner-requires
 winner-requires c κs = omega arith
 
 returns : tie.Need-returns
-returns c = (sym (c .if1 .taken) ∙ c .before .winner .ensures, record { stages = refl; starts = refl; counted = refl; booked = refl })
+returns c = (sym (c .if1 .taken) ∙ c .before .winner .ensures, omega arith, record { stages = refl; starts = refl; counted = refl; booked = refl })
 
 mul-wait : tie.Need-mul-wait
 mul-wait c = omega (arith, below c)
@@ -64,7 +64,7 @@ returns-2 : tie.Need-returns-2
 returns-2 c = 
     let at = c .before .before .before .before .before .before in
     let serves = ne-eqb _ _ (at .if1 .left) in
-    (at .before .winner .ensures,
+    (at .before .winner .ensures, below at,
         record {
           stages = sym (cond-not _ _ serves);
           starts = sym (cond-not _ _ serves);
