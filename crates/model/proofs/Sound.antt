@@ -59,7 +59,7 @@ typed-facts s h = record {
   steps = leb-true _ _ (test-at _ h 13);
 }
 
-typed-test : (s : State) → Typed s → So (typed s)
+pub typed-test : (s : State) → Typed s → So (typed s)
 unfolding typed allOf
 typed-test s f =
     let room = f .requests in

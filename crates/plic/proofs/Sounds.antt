@@ -1,29 +1,29 @@
 -- What a sound state with a step left says of the arrays that a step changes, and how the changed arrays make up the state after it.
 -- Assumes nothing.
 use mathlib.Core.Path.{_≡_, _∙_, refl, sym, ap, subst}
-use mathlib.Core.Bool.{Bool, true, false, cond, So}
+use mathlib.Core.Bool.{Bool, true, false, cond, _&&_, So, and-true}
 use mathlib.Core.Logic.{⊎-elim, _≢_}
 use mathlib.Core.List.{List}
 use Prim.Native.Nat.{ℕ, _+_, _-_, _*_, _/_, _%_, _≤_, _<_}
 use native.Mathlib.Omega.{arith}
-use lib.Dec.{eqb}
+use lib.Dec.{leb, eqb}
 use lib.ListN.{getD, set}
 use lib.Seq.{set-getD}
 use borrow.Author.Tests.{eq-eqb}
-use Rattle.laws.specs.Fold.{sumTo}
-use Rattle.laws.proofs.Truth.{dichotomy, cond-so, cond-not, cond-ap}
+use Rattle.laws.specs.Fold.{sumTo, allTo, allOf}
+use Rattle.laws.proofs.Truth.{dichotomy, not-so, and-fails-left, and-fails-right, cond-so, cond-not, cond-ap}
 use Rattle.laws.proofs.Fold.{term-le-sum, sum-bound}
 use Rattle.model.specs.declared.Requests.{Requests}
 use Rattle.model.specs.declared.Counts.{Counts}
 use Rattle.model.specs.declared.Buckets.{Buckets}
 use Rattle.model.specs.declared.State.{State}
-use Rattle.model.specs.Board.{request, setRequest, priority, enableWord, enabled, kindOf, withRequest, withCounts}
+use Rattle.model.specs.Board.{request, setRequest, priority, enableWord, enabled, kindOf, withinLimits, withRequest, withCounts}
 use Rattle.model.specs.Waits.{isPending, isInService, wait, openAge, counted, booked, sourceClaims, sourceWaited, boardClaims, boardWaited, bucketClaims, bucketTicks}
 use Rattle.model.specs.Life.{pendingFor, eligible, rank, winner, served, claimOf, claimBy, takesEffect, completeBy}
 use Rattle.model.specs.declared.Register.{Register}
 use Rattle.model.specs.declared.Register.the-variants.{Priority, Pending, Enable, Threshold, Claim, Nothing}
 use Rattle.model.specs.Registers.{StandsAt, decode}
-use Rattle.model.specs.Sound.{Sound}
+use Rattle.model.specs.Sound.{typed, soundSourceAt, soundContext, sound, Sound}
 use Rattle.model.proofs.Claim.{source-range}
 use Rattle.model.proofs.Registers.{context-range, word-range, is-named, decode-iff}
 use Rattle.plic.specs.Leaves.{enabledIn, pendingForIn, rankIn, winnerIn}
@@ -133,4 +133,26 @@ module _ (n m off : ℕ) (wide : (n ≤ 127) × (m ≤ 8)) (aligned : off % 4 �
 
   pub at-claim : (c : ℕ) → decode n m off ≡ Claim c → c < 8
   at-claim c e = omega (arith, context-range m c (stands (Claim c) (is-named (Claim c) refl) e .0), wide .1)
+
+-- the parts of the test of soundness, once the types and the limits are known to hold
+seven : (t w a c l e f : Bool) → So t → So w → (t && (w && (a && (c && (l && (e && (f && true))))))) ≡ (a && (c && (l && (e && f))))
+seven true true a c l e f _ _ = ap (λ (x : Bool). a && (c && (l && (e && x)))) (and-true f)
+seven true false a c l e f _ k = absurd (not-so refl k)
+seven false w a c l e f h _ = absurd (not-so refl h)
+
+pub sound-parts : (s : State) → So (typed s) → So (withinLimits (s .shape .sources) (s .shape .contexts) (s .shape .bits)) →
+    sound s ≡ (allTo (soundSourceAt s) 128 && (allTo (soundContext (s .shape) (s .settings)) 8 &&
+        (leb (boardClaims (s .counts)) (s .steps) && (eqb (boardClaims (s .counts)) (sumTo (bucketClaims (s .buckets)) 33)
+            && eqb (boardWaited (s .counts)) (sumTo (bucketTicks (s .buckets)) 33)))))
+unfolding sound allOf
+sound-parts s t w =
+    seven (typed s) (withinLimits (s .shape .sources) (s .shape .contexts) (s .shape .bits)) (allTo (soundSourceAt s) 128)
+    (allTo (soundContext (s .shape) (s .settings)) 8) (leb (boardClaims (s .counts)) (s .steps))
+    (eqb (boardClaims (s .counts)) (sumTo (bucketClaims (s .buckets)) 33))
+    (eqb (boardWaited (s .counts)) (sumTo (bucketTicks (s .buckets)) 33)) t w
+
+-- outside the limits nothing is sound
+pub unsound-limits : (s : State) → withinLimits (s .shape .sources) (s .shape .contexts) (s .shape .bits) ≡ false → sound s ≡ false
+unfolding sound allOf
+unsound-limits s e = and-fails-right (typed s) (and-fails-left _ e)
 

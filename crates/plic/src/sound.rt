@@ -1,16 +1,19 @@
 // Whether a state is sound: each clause of the definition, computed on any contents. Loops over lent arrays; nothing rolls over.
 use crate::words::kept_bits;
+use crate::words::power;
 use crate::words::wide;
 use model::Request;
+use model::State;
 
 ghost use mathlib.Core.Path.{_≡_};
-ghost use mathlib.Core.Bool.{Bool};
-ghost use Prim.Native.Nat.{ℕ, _+_, _*_, _≤_, _<_};
-ghost use lib.Dec.{eqb};
+ghost use mathlib.Core.Bool.{Bool, _&&_};
+ghost use Prim.Native.Nat.{ℕ, _+_, _-_, _*_, _^_, _≤_, _<_};
+ghost use lib.Dec.{leb, eqb};
 ghost use lib.ListN.{getD};
 ghost use Rattle.laws.specs.Fold.{sumTo, allTo};
+ghost use Rattle.model.specs.Board.{withinLimits};
 ghost use Rattle.model.specs.Registers.{kept};
-ghost use Rattle.model.specs.Sound.{soundSource};
+ghost use Rattle.model.specs.Sound.{soundSource, sound};
 ghost use Rattle.plic.specs.Leaves.{openAgeIn, soundSourceIn, soundContextIn};
 
 // The ticks from the step that set the pending bit to now, where it is set.
@@ -173,4 +176,47 @@ fn ticks_come_to(ticks: &[u64; 33], total: u64) -> bool
         k += 1;
     }
     left == 0
+}
+
+// Whether a shape's numbers are within their limits.
+pub(crate) fn within_limits(n: u32, m: u32, b: u32) -> bool
+    ensures { λ r. ⌜ r ≡ withinLimits n m b ⌝ }
+{
+    (1 <= n) & (n <= 127) & (1 <= m) & (m <= 8) & (1 <= b) & (b <= 5)
+}
+
+// The highest priority of b bits.
+fn highest(b: u32) -> u8
+    requires { ⌜ b ≤ 5 ⌝ }
+    ensures { λ r. ⌜ r ≡ 2 ^ b - 1 ⌝ }
+{
+    (power(b) - 1) as u8
+}
+
+// The clauses on the sums.
+fn sums_sound<'a>(steps: u32, claims: &'a [u32; 128], waited: &'a [u32; 128], bucket_claims: &'a [u32; 33], bucket_ticks: &'a [u64; 33]) -> bool
+    ensures { λ r. ⌜ r ≡ (leb (sumTo (λ i. getD (now (claims .entry)) i 0) 128) steps && (eqb (sumTo (λ i. getD (now (claims .entry)) i 0) 128) (sumTo (λ k. getD (now («bucket_claims» .entry)) k 0) 33) && eqb (sumTo (λ i. getD (now (waited .entry)) i 0) 128) (sumTo (λ k. getD (now («bucket_ticks» .entry)) k 0) 33))) ⌝ }
+{
+    let claimed = source_total(claims);
+    let ticks = source_total(waited);
+    let booked = bucket_total(bucket_claims);
+    let right = ticks_come_to(bucket_ticks, ticks);
+    (claimed <= wide(steps)) & ((claimed == booked) & right)
+}
+
+// Whether a state is sound, whatever it holds: true or false, and nothing is refused.
+pub fn is_sound(state: State) -> bool
+    ensures { λ r. ⌜ r ≡ sound state ⌝ }
+{
+    let n = state.shape.sources;
+    let m = state.shape.contexts;
+    let b = state.shape.bits;
+    if !within_limits(n, m, b) {
+        return false;
+    }
+    let most = highest(b);
+    let sources = sources_sound(n, most, state.clock, &state.shape.kind, &state.settings.priority, &state.requests.stage, &state.requests.line, &state.requests.extra, &state.requests.start, &state.counts.claims, &state.counts.waited);
+    let contexts = contexts_sound(n, m, most, &state.settings.enable, &state.settings.threshold);
+    let sums = sums_sound(state.steps, &state.counts.claims, &state.counts.waited, &state.buckets.claims, &state.buckets.ticks);
+    sources & (contexts & sums)
 }
