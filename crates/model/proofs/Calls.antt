@@ -8,14 +8,16 @@ use mathlib.Core.List.{List, [], _∷_, List·Memᴰ, List·Memᴰ·head, List·
 use Prim.Native.Nat.{ℕ, zero, suc, _+_, _-_, _*_, _%_, _≤_, _<_}
 use native.Mathlib.Nat.{le-refl}
 use native.Mathlib.Omega.{arith}
-use lib.Dec.{leb, ltb, eqb, lit<}
+use lib.Dec.{leb, ltb, eqb, eqb·suc-zero, lit<}
 use lib.ListN.{length, replicate}
 use borrow.Author.Tests.{ltb-true, ltb-false, leb-true, leb-false, eqb-true, eqb-false, eq-eqb, ne-eqb, not-false, not-true}
 use Rattle.laws.proofs.Truth.{dichotomy, not-so, so-not, and-left, and-right, cond-so, cond-not, cond-elim}
 use Rattle.model.specs.declared.State.{State}
+use Rattle.model.specs.declared.Refusal.{Refusal}
 use Rattle.model.specs.declared.Register.{Register}
 use Rattle.model.specs.Board.{isSource, isContext, withSteps, withClock, withRequest, withCounts, withSettings}
-use Rattle.model.specs.Refusals.{Outcome, Ground, firstOf, Concerns, Smallest}
+use Rattle.model.specs.Refusals.{Outcome, numberOf, Ground, firstOf, Concerns, Smallest}
+use Rattle.model.proofs.Refusals.{number-back}
 use Rattle.model.specs.Registers.{decode}
 use Rattle.model.specs.Sound.{sound, Sound}
 use Rattle.model.specs.Calls.{Call, line, advance, read, write, notification, mean, byClaim, byTime, totals, isStep, notSound, noStepLeft, offsetAbove, offsetUnaligned, noSuchSource, noSuchContext, clockPast, perMilleOutside, nothingToDivide, grounds, valuesOf, effect, after, respond}
@@ -167,3 +169,29 @@ module _ (s : State) where
       (λ (u : So (eqb (respond a s .number) 0)). accepted-gives a s (eqb-true _ 0 u) ∙ cond-not _ _ t ∙ no-effect a t)
       (λ u. refused-gives a s (eqb-false _ 0 u) .1)
       (dichotomy (eqb (respond a s .number) 0))
+
+-- which number is given, one ground at a time
+pub first-hit : (g : Ground) (gs : List Ground) → So (g .holds) → firstOf (g ∷ gs) ≡ g .number
+unfolding firstOf
+first-hit g gs t = cond-so (g .number) (firstOf gs) t
+
+pub first-miss : (g : Ground) (gs : List Ground) → g .holds ≡ false → firstOf (g ∷ gs) ≡ firstOf gs
+unfolding firstOf
+first-miss g gs e = cond-not (g .number) (firstOf gs) e
+
+-- the outcome of a call, by the number
+pub refused-as : (a : Call) (s : State) (r : Refusal) → firstOf (grounds a s) ≡ numberOf r →
+    respond a s ≡ record { number = numberOf r; values = replicate (length (valuesOf a s)) 0; state = s }
+unfolding respond
+refused-as a s r e =
+    let n = number-back r in
+    let fails = ap (λ (k : ℕ). eqb k 0) (e ∙ n .1) ∙ eqb·suc-zero (n .0) in
+    λ i. record { number = e i; values = cond-not (valuesOf a s) (replicate (length (valuesOf a s)) 0) fails i; state = cond-not (after a s) s fails i }
+
+pub accepted-as : (a : Call) (s : State) → firstOf (grounds a s) ≡ 0 →
+    respond a s ≡ record { number = 0; values = valuesOf a s; state = after a s }
+unfolding respond
+accepted-as a s e =
+    let holds = eq-eqb (firstOf (grounds a s)) 0 e in
+    λ i. record { number = e i; values = cond-so (valuesOf a s) (replicate (length (valuesOf a s)) 0) holds i; state = cond-so (after a s) s holds i }
+

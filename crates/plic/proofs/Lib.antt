@@ -2,3 +2,4 @@ pub mod Kept
 pub mod Ranks
 pub mod Effects
 pub mod Sounds
+pub mod Answers

@@ -2,6 +2,7 @@
 // once and answer for every input.
 mod arbiter;
 mod board;
+mod calls;
 mod life;
 mod registers;
 mod sound;
