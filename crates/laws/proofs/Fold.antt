@@ -12,7 +12,7 @@ use native.Mathlib.Omega.{arith}
 use lib.Dec.{ltb}
 use borrow.Author.Tests.{ltb-true, ltb-false}
 use Rattle.laws.specs.Fold.{sumTo, allTo, allOf, anyTo, firstTo, best, First, Best}
-use Rattle.laws.proofs.Truth.{dichotomy, not-so, and-intro, and-left, and-right, or-left, or-right, or-cases, cond-so, cond-not}
+use Rattle.laws.proofs.Truth.{dichotomy, not-so, so-not, and-intro, and-left, and-right, or-left, or-right, or-cases, cond-so, cond-not}
 
 -- below one more: the last index, or below it
 pub last-or-below : {i n : ℕ} → i < suc n → (i ≡ n) ⊎ (i < n)
@@ -94,6 +94,9 @@ pub all-of : (f : ℕ → Bool) (n : ℕ) → ((i : ℕ) → i < n → So (f i))
 unfolding allTo
 all-of f zero h = refl
 all-of f (suc n) h = and-intro (all-of f n (λ i k. h i (omega arith))) (h n (omega arith))
+
+pub all-fails : (f : ℕ → Bool) (n i : ℕ) → i < n → f i ≡ false → allTo f n ≡ false
+all-fails f n i h e = so-not (allTo f n) (λ t. not-so e (all-at f n t i h))
 
 -- the k-th test of a list of tests that all hold
 pub test-at : (ts : List Bool) → So (allOf ts) → (k : ℕ) → So (getD ts k true)

@@ -148,7 +148,7 @@ module _ (n c b : ℕ) (kinds : List ℕ) (limits : WithinLimits n c b) (long : 
 
 -- the cases of making
 
-made-when : (n c b : ℕ) (kinds : List ℕ) → So (withinLimits n c b && kindsFor n kinds) →
+pub made-when : (n c b : ℕ) (kinds : List ℕ) → So (withinLimits n c b && kindsFor n kinds) →
     (make n c b kinds .number ≡ 0) × (make n c b kinds .state ≡ freshIn (shapeOf n c b kinds))
 unfolding make firstOf badShape
 made-when n c b kinds t = (
@@ -156,7 +156,7 @@ made-when n c b kinds t = (
   ap (λ (g : Bool). cond (eqb (cond (not g) 1 0) 0) (freshIn (shapeOf n c b kinds)) zeroState) t,
 )
 
-unmade-when : (n c b : ℕ) (kinds : List ℕ) → (withinLimits n c b && kindsFor n kinds) ≡ false →
+pub unmade-when : (n c b : ℕ) (kinds : List ℕ) → (withinLimits n c b && kindsFor n kinds) ≡ false →
     (make n c b kinds .number ≡ 1) × (make n c b kinds .state ≡ zeroState)
 unfolding make firstOf badShape
 unmade-when n c b kinds t = (

@@ -1,6 +1,6 @@
 -- The percentile report gives the upper end of the lowest bucket that reaches the share asked for.
 -- Assumes nothing.
-use mathlib.Core.Path.{_≡_, refl}
+use mathlib.Core.Path.{_≡_, refl, ap}
 use mathlib.Core.Bool.{So}
 use mathlib.Core.Logic.{⊎-elim}
 use Prim.Native.Nat.{ℕ, suc, _*_, _≤_, _<_}
@@ -10,7 +10,7 @@ use lib.Dec.{leb, ltb}
 use borrow.Author.Tests.{leb-true, leb-false, le-leb, ltb-true, ltb-false}
 use Rattle.laws.specs.Fold.{sumTo, firstTo, First}
 use Rattle.laws.proofs.Truth.{dichotomy, so-not}
-use Rattle.laws.proofs.Fold.{first-is}
+use Rattle.laws.proofs.Fold.{first-is, first-once}
 use Rattle.model.specs.Waits.{upperEnd, reaches, percentile, Percentile}
 
 module _ (counts : ℕ → ℕ) (p : ℕ) (most : p ≤ 1000) where
@@ -39,3 +39,16 @@ module _ (counts : ℕ → ℕ) (p : ℕ) (most : p ≤ 1000) where
   percentile-is =
       let k = firstTo (reaches counts p) 33 in
       (k, first-percentile k (first-is (reaches counts p) 33), refl)
+
+  -- what a walk over the buckets finds: the first that reaches the share
+  pub percentile-found : (k : ℕ) → k < 33 → p * sumTo counts 33 ≤ sumTo counts (suc k) * 1000 →
+      ((j : ℕ) → j < k → sumTo counts (suc j) * 1000 < p * sumTo counts 33) → upperEnd k ≡ percentile counts p
+  unfolding percentile reaches
+  percentile-found k h here passed = ap upperEnd (first-once (reaches counts p) 33
+      (record {
+          within = omega arith;
+          before = λ j l t. absurd (omega (arith, passed j l, leb-true (p * sumTo counts 33) (sumTo counts (suc j) * 1000) t));
+          found = λ _. le-leb (p * sumTo counts 33) (sumTo counts (suc k) * 1000) here
+      })
+      (first-is (reaches counts p) 33))
+

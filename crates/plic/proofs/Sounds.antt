@@ -29,6 +29,15 @@ use Rattle.model.proofs.Registers.{context-range, word-range, is-named, decode-
 use Rattle.plic.specs.Leaves.{enabledIn, pendingForIn, rankIn, winnerIn}
 use Rattle.plic.specs.Arrays.{requestsOf, countsOf, bucketsOf, stateOf, Ready, completedAt, takesEffectIn, completedBy, Bookable, Claimed}
 
+-- the board's sums in a sound state fit their places
+pub claims-fit : (s : State) → Sound s → boardClaims (s .counts) ≤ 4294967295
+claims-fit s f = omega (arith, f .claims, f .types .steps)
+
+pub waited-fit : (s : State) → Sound s → boardWaited (s .counts) ≤ 128 * 4294967295
+unfolding boardWaited
+waited-fit s f =
+    sum-bound (sourceWaited (s .counts)) 128 4294967295 (λ i h. omega (arith, f .source i h .waits, f .types .clock))
+
 module _ (s : State) (ready : Ready s) where
   -- a source's claims and a bucket's are at most all claims, which are at most the steps
   claims-below : (i : ℕ) → i < 128 → sourceClaims (s .counts) i < 4294967295
@@ -39,15 +48,10 @@ module _ (s : State) (ready : Ready s) where
   bucket-below k h =
       omega (arith, term-le-sum (bucketClaims (s .buckets)) 33 k h, ready .sound .claimsBooked, ready .sound .claims, ready .room)
 
-  -- a bucket's ticks are at most all closed waits, each of which is at most the clock
-  waited-below : (i : ℕ) → i < 128 → sourceWaited (s .counts) i ≤ 4294967295
-  waited-below i h = omega (arith, ready .sound .source i h .waits, ready .sound .types .clock)
-
+  -- a bucket's ticks are at most all closed waits
   ticks-below : (k : ℕ) → k < 33 → bucketTicks (s .buckets) k ≤ 128 * 4294967295
-  unfolding boardWaited
   ticks-below k h =
-      omega (arith, term-le-sum (bucketTicks (s .buckets)) 33 k h, ready .sound .ticksBooked,
-          sum-bound (sourceWaited (s .counts)) 128 4294967295 waited-below)
+      omega (arith, term-le-sum (bucketTicks (s .buckets)) 33 k h, ready .sound .ticksBooked, waited-fit s (ready .sound))
 
   pub bookable : Bookable (s .clock) (s .requests .stage) (s .requests .start) (s .counts .claims) (s .counts .waited)
       (s .buckets .claims) (s .buckets .ticks)
@@ -155,4 +159,3 @@ sound-parts s t w =
 pub unsound-limits : (s : State) → withinLimits (s .shape .sources) (s .shape .contexts) (s .shape .bits) ≡ false → sound s ≡ false
 unfolding sound allOf
 unsound-limits s e = and-fails-right (typed s) (and-fails-left _ e)
-

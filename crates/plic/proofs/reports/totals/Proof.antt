@@ -1,0 +1,66 @@
+-- `reports::totals` meets its contract: refusal 2, or the clock and the three sums.
+-- Assumes nothing.
+use borrow.Author.Needs.{needs}
+use mathlib.Core.Path.{_≡_, _∙_, refl, sym, ap, ap₂}
+use Prim.Native.Nat.{ℕ, zero, suc, _+_, _-_, _*_, _≤_, _<_}
+use native.Mathlib.Omega.{arith}
+use mathlib.Core.Bool.{So}
+use mathlib.Core.List.{List, [], _∷_}
+use lib.ListN.{getD}
+use borrow.Author.Tests.{not-true, not-false, leb-true}
+use Rattle.laws.specs.Fold.{sumTo}
+use Rattle.laws.proofs.Truth.{and-right}
+use lib.Dec.{leb}
+use Rattle.model.specs.declared.State.{State}
+use Rattle.model.specs.declared.Refusal.the-variants.{NotSound}
+use Rattle.model.specs.Waits.{openAge, isPending, sourceClaims, sourceWaited, boardClaims, boardWaited, boardOpen, bucketClaims, bucketTicks, percentile}
+use Rattle.model.specs.Board.{request}
+use Rattle.model.specs.Sound.{Sound}
+use Rattle.model.specs.Refusals.{numberOf, answerNumber, answerValues, answered, meanNumber, meanValues, averaged, totalsNumber, totalsValues, totalled}
+use Rattle.model.specs.Calls.{totals, isStep, grounds, valuesOf, effect, after}
+use Rattle.model.proofs.Sound.{sound-facts}
+use Rattle.model.proofs.Calls.{refused-as, accepted-as}
+use Rattle.plic.proofs.Answers.{unsound, passes, outside, inside, nothing, something, none}
+use Rattle.plic.proofs.Sounds.{claims-fit, waited-fit}
+use Rattle.plic.specs.Leaves.{openAgeIn}
+use Rattle.plic.proofs.reports.totals.Statement.{statement}
+use Rattle.plic.proofs.reports.totals.Tie as tie
+
+is-sound-requires : tie.Need-is-sound-requires
+is-sound-requires c κs = search needs
+
+returns : tie.Need-returns
+unfolding totalled totalsNumber totalsValues numberOf valuesOf grounds after effect isStep boardClaims boardWaited boardOpen sourceClaims sourceWaited openAge isPending request openAgeIn
+returns c = sym (refused-as totals (c .before .before .args .t1) NotSound (unsound _ _ (sym (c .before .is-sound .ensures) ∙ not-true _ (c .if1 .taken))))
+
+source-total-requires : tie.Need-source-total-requires
+source-total-requires c κs = search needs
+
+source-total-requires-2 : tie.Need-source-total-requires-2
+source-total-requires-2 c κs = search needs
+
+open-total-requires : tie.Need-open-total-requires
+open-total-requires c κs = search needs
+
+cast-t17 : tie.Need-cast-t17
+unfolding boardClaims sourceClaims
+cast-t17 c = omega (arith, c .before .before .before .before .before .before .before .source-total .ensures, claims-fit (c .before .before .before .before .before .before .before .before .before .before .before .before .args .t1) (sound-facts _ (sym (c .before .before .before .before .before .before .before .before .before .before .before .is-sound .ensures) ∙ not-false _ (c .before .before .before .before .before .before .before .before .before .before .if1 .left))))
+
+returns-2 : tie.Need-returns-2
+unfolding totalled totalsNumber totalsValues numberOf valuesOf grounds after effect isStep boardClaims boardWaited boardOpen sourceClaims sourceWaited openAge isPending request openAgeIn
+returns-2 c = 
+    let s = c .before .before .before .before .before .before .before .before .before .before .before .before .args .t1 in
+    (λ i. record { number = 0; values = s .clock ∷ c .before .before .before .before .before .before .before .source-total .ensures i ∷ c .before .before .before .before .source-total2 .ensures i ∷ c .open-total .ensures i ∷ []; state = s })
+    ∙ sym (accepted-as totals s (passes s _ (sym (c .before .before .before .before .before .before .before .before .before .before .before .is-sound .ensures) ∙ not-false _ (c .before .before .before .before .before .before .before .before .before .before .if1 .left)) ∙ none))
+
+pub totals-spec : {M : Type 1} → statement M
+totals-spec =
+    tie.close
+    (tie.spec
+    is-sound-requires
+    returns
+    source-total-requires
+    source-total-requires-2
+    open-total-requires
+    cast-t17
+    returns-2)

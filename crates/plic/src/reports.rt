@@ -1,0 +1,156 @@
+// The reports: the mean's two numbers, the percentiles by claim and by time, and the totals. They leave the state as it was.
+use crate::calls::refused;
+use crate::sound::is_sound;
+use crate::sound::open_age;
+use crate::sound::source_total;
+use crate::waits::upper_end;
+use crate::words::wide;
+use model::Answer;
+use model::Answered;
+use model::Averaged;
+use model::Mean;
+use model::Refusal;
+use model::State;
+use model::Totalled;
+use model::Totals;
+
+ghost use mathlib.Core.Path.{_≡_};
+ghost use Prim.Native.Nat.{ℕ, _+_, _*_, _≤_, _<_};
+ghost use lib.ListN.{length, getD};
+ghost use Rattle.laws.specs.Fold.{sumTo};
+ghost use Rattle.model.specs.Waits.{percentile};
+ghost use Rattle.model.specs.Refusals.{answered, averaged, totalled};
+ghost use Rattle.model.specs.Calls.{mean, byClaim, byTime, totals, respond};
+ghost use Rattle.plic.specs.Leaves.{openAgeIn};
+
+// The mean as its two whole numbers. Returns ticks waited and claims of the whole board, or a refusal (2, 10), and the state as it was.
+pub fn mean(state: State) -> Averaged
+    ensures { λ r. ⌜ averaged r ≡ respond mean state ⌝ }
+{
+    if !is_sound(state) {
+        return Averaged {
+            mean: Mean::Refused(Refusal::NotSound),
+            state: state,
+        };
+    }
+    let claims = source_total(&state.counts.claims);
+    if claims == 0 {
+        return Averaged {
+            mean: Mean::Refused(Refusal::NothingToDivide),
+            state: state,
+        };
+    }
+    let waited = source_total(&state.counts.waited);
+    Averaged {
+        mean: Mean::Of(waited, claims as u32),
+        state: state,
+    }
+}
+
+// The upper end of the lowest bucket in which counts, in it and below, times 1000, reach p times all of them.
+fn percentile_of(counts: &[u64; 33], p: u32, all: u64) -> u32
+    requires { ⌜ (p ≤ 1000) × (all ≡ sumTo (λ k. getD (now counts) k 0) 33) × (all * 1000 < 18446744073709551616) ⌝ }
+    ensures { λ r. ⌜ r ≡ percentile (λ k. getD (now (counts .entry)) k 0) p ⌝ }
+{
+    let goal = wide(p) * all;
+    let mut below: u64 = 0;
+    let mut k: usize = 0;
+    while k < 32 {
+        below += counts[k];
+        if goal <= below * 1000 {
+            return upper_end(k);
+        }
+        k += 1;
+    }
+    upper_end(32)
+}
+
+// The buckets' claims as numbers of 64 bits.
+fn widened(counts: &[u32; 33]) -> [u64; 33]
+    requires { ⌜ length (now counts) ≡ 33 ⌝ }
+    ensures { λ r. ⌜ r ≡ now (counts .entry) ⌝ }
+{
+    let mut wider = [0u64; 33];
+    let mut k: usize = 0;
+    while k < 33 {
+        wider[k] = wide(counts[k]);
+        k += 1;
+    }
+    wider
+}
+
+// The percentile by claim. Returns the upper end of a bucket, or a refusal (2, 9, 10), and the state as it was.
+pub fn by_claim(state: State, per_mille: u32) -> Answered
+    ensures { λ r. ⌜ answered r ≡ respond (byClaim «per_mille») state ⌝ }
+{
+    if !is_sound(state) {
+        return refused(state, Refusal::NotSound);
+    }
+    if !((1 <= per_mille) & (per_mille <= 1000)) {
+        return refused(state, Refusal::PerMilleOutside);
+    }
+    let claims = source_total(&state.counts.claims);
+    if claims == 0 {
+        return refused(state, Refusal::NothingToDivide);
+    }
+    let counts = widened(&state.buckets.claims);
+    let value = percentile_of(&counts, per_mille, claims);
+    Answered {
+        answer: Answer::Value(value),
+        state: state,
+    }
+}
+
+// The percentile by time waited. Returns the upper end of a bucket, or a refusal (2, 9, 10), and the state as it was.
+pub fn by_time(state: State, per_mille: u32) -> Answered
+    ensures { λ r. ⌜ answered r ≡ respond (byTime «per_mille») state ⌝ }
+{
+    if !is_sound(state) {
+        return refused(state, Refusal::NotSound);
+    }
+    if !((1 <= per_mille) & (per_mille <= 1000)) {
+        return refused(state, Refusal::PerMilleOutside);
+    }
+    let waited = source_total(&state.counts.waited);
+    if waited == 0 {
+        return refused(state, Refusal::NothingToDivide);
+    }
+    let value = percentile_of(&state.buckets.ticks, per_mille, waited);
+    Answered {
+        answer: Answer::Value(value),
+        state: state,
+    }
+}
+
+// The ages still open, of all sources together.
+pub(crate) fn open_total<'a>(clock: u32, stage: &'a [u8; 128], start: &'a [u32; 128]) -> u64
+    ensures { λ r. ⌜ r ≡ sumTo (λ i. openAgeIn clock (getD (now (stage .entry)) i 0) (getD (now (start .entry)) i 0)) 128 ⌝ }
+{
+    let mut total: u64 = 0;
+    let mut i: usize = 0;
+    while i < 128 {
+        total += wide(open_age(clock, stage[i], start[i]));
+        i += 1;
+    }
+    total
+}
+
+// The totals that stand at the end of a replay. Returns clock, claims, ticks waited by claims and ages still open, or refusal 2, and
+// the state as it was.
+pub fn totals(state: State) -> Totalled
+    ensures { λ r. ⌜ totalled r ≡ respond totals state ⌝ }
+{
+    if !is_sound(state) {
+        return Totalled {
+            totals: Totals::Refused(Refusal::NotSound),
+            state: state,
+        };
+    }
+    let claims = source_total(&state.counts.claims);
+    let waited = source_total(&state.counts.waited);
+    let open = open_total(state.clock, &state.requests.stage, &state.requests.start);
+    Totalled {
+        totals: Totals::Of(state.clock, claims as u32, waited, open),
+        state: state,
+    }
+}
