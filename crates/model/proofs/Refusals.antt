@@ -24,7 +24,6 @@ refusalOf n = getD
 
 -- a refusal's number is that of no other, and above 0
 pub number-back : (r : Refusal) → (k : ℕ) × (numberOf r ≡ suc k) × (refusalOf (suc k) ≡ r)
-unfolding numberOf
 number-back BadShape = (0, refl, refl)
 number-back NotSound = (1, refl, refl)
 number-back NoStepLeft = (2, refl, refl)

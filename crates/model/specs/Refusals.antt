@@ -18,7 +18,7 @@ use Rattle.model.specs.declared.Averaged.{Averaged}
 use Rattle.model.specs.declared.Totalled.{Totalled}
 
 -- the table's numbers
-unfoldable pub numberOf : Refusal → ℕ
+abbrev pub numberOf : Refusal → ℕ
 numberOf BadShape = 1
 numberOf NotSound = 2
 numberOf NoStepLeft = 3

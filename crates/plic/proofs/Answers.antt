@@ -19,7 +19,7 @@ use Rattle.model.proofs.Calls.{first-hit, first-miss}
 
 module _ (s : State) (gs : List Ground) where
   pub unsound : sound s ≡ false → firstOf (notSound s ∷ gs) ≡ numberOf NotSound
-  unfolding notSound numberOf
+  unfolding notSound
   unsound e = first-hit (notSound s) gs (ap not e)
 
   pub passes : So (sound s) → firstOf (notSound s ∷ gs) ≡ firstOf gs
@@ -27,7 +27,7 @@ module _ (s : State) (gs : List Ground) where
   passes t = first-miss (notSound s) gs (ap not t)
 
   pub no-step : 4294967295 ≤ s .steps → firstOf (noStepLeft s ∷ gs) ≡ numberOf NoStepLeft
-  unfolding noStepLeft numberOf
+  unfolding noStepLeft
   no-step h = first-hit (noStepLeft s) gs (le-leb 4294967295 (s .steps) h)
 
   pub a-step : s .steps < 4294967295 → firstOf (noStepLeft s ∷ gs) ≡ firstOf gs
@@ -35,7 +35,7 @@ module _ (s : State) (gs : List Ground) where
   a-step h = first-miss (noStepLeft s) gs (lt-leb 4294967295 (s .steps) h)
 
   pub no-source : (i : ℕ) → isSource (s .shape .sources) i ≡ false → firstOf (noSuchSource s i ∷ gs) ≡ numberOf NoSuchSource
-  unfolding noSuchSource numberOf
+  unfolding noSuchSource
   no-source i e = first-hit (noSuchSource s i) gs (ap not e)
 
   pub a-source : (i : ℕ) → So (isSource (s .shape .sources) i) → firstOf (noSuchSource s i ∷ gs) ≡ firstOf gs
@@ -43,7 +43,7 @@ module _ (s : State) (gs : List Ground) where
   a-source i t = first-miss (noSuchSource s i) gs (ap not t)
 
   pub no-context : (c : ℕ) → s .shape .contexts ≤ c → firstOf (noSuchContext s c ∷ gs) ≡ numberOf NoSuchContext
-  unfolding noSuchContext numberOf isContext
+  unfolding noSuchContext isContext
   no-context c h = first-hit (noSuchContext s c) gs (ap not (le-ltb c (s .shape .contexts) h))
 
   pub a-context : (c : ℕ) → c < s .shape .contexts → firstOf (noSuchContext s c ∷ gs) ≡ firstOf gs
@@ -51,7 +51,7 @@ module _ (s : State) (gs : List Ground) where
   a-context c h = first-miss (noSuchContext s c) gs (ap not (lt-ltb c (s .shape .contexts) h))
 
   pub past : (n : ℕ) → 4294967295 < s .clock + n → firstOf (clockPast s n ∷ gs) ≡ numberOf ClockPast
-  unfolding clockPast numberOf
+  unfolding clockPast
   past n h = first-hit (clockPast s n) gs (lt-ltb 4294967295 (s .clock + n) h)
 
   pub not-past : (n : ℕ) → s .clock + n ≤ 4294967295 → firstOf (clockPast s n ∷ gs) ≡ firstOf gs
@@ -60,7 +60,7 @@ module _ (s : State) (gs : List Ground) where
 
 module _ (gs : List Ground) where
   pub above : (off : ℕ) → 0x3FFFFFC < off → firstOf (offsetAbove off ∷ gs) ≡ numberOf OffsetAbove
-  unfolding offsetAbove numberOf
+  unfolding offsetAbove
   above off h = first-hit (offsetAbove off) gs (lt-ltb 0x3FFFFFC off h)
 
   pub not-above : (off : ℕ) → off ≤ 0x3FFFFFC → firstOf (offsetAbove off ∷ gs) ≡ firstOf gs
@@ -68,7 +68,7 @@ module _ (gs : List Ground) where
   not-above off h = first-miss (offsetAbove off) gs (le-ltb 0x3FFFFFC off h)
 
   pub unaligned : (off : ℕ) → (off % 4 ≡ 0 → ⊥) → firstOf (offsetUnaligned off ∷ gs) ≡ numberOf OffsetUnaligned
-  unfolding offsetUnaligned numberOf
+  unfolding offsetUnaligned
   unaligned off ne = first-hit (offsetUnaligned off) gs (ap not (ne-eqb (off % 4) 0 ne))
 
   pub aligned : (off : ℕ) → off % 4 ≡ 0 → firstOf (offsetUnaligned off ∷ gs) ≡ firstOf gs
@@ -76,7 +76,7 @@ module _ (gs : List Ground) where
   aligned off e = first-miss (offsetUnaligned off) gs (ap not (eq-eqb (off % 4) 0 e))
 
   pub outside : (p : ℕ) → (leb 1 p && leb p 1000) ≡ false → firstOf (perMilleOutside p ∷ gs) ≡ numberOf PerMilleOutside
-  unfolding perMilleOutside numberOf
+  unfolding perMilleOutside
   outside p e = first-hit (perMilleOutside p) gs (ap not e)
 
   pub inside : (p : ℕ) → So (leb 1 p && leb p 1000) → firstOf (perMilleOutside p ∷ gs) ≡ firstOf gs
@@ -84,7 +84,7 @@ module _ (gs : List Ground) where
   inside p t = first-miss (perMilleOutside p) gs (ap not t)
 
   pub nothing : (n : ℕ) → n ≡ 0 → firstOf (nothingToDivide n ∷ gs) ≡ numberOf NothingToDivide
-  unfolding nothingToDivide numberOf
+  unfolding nothingToDivide
   nothing n e = first-hit (nothingToDivide n) gs (eq-eqb n 0 e)
 
   pub something : (n : ℕ) → (n ≡ 0 → ⊥) → firstOf (nothingToDivide n ∷ gs) ≡ firstOf gs

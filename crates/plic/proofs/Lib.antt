@@ -3,3 +3,4 @@ pub mod Ranks
 pub mod Effects
 pub mod Sounds
 pub mod Answers
+pub mod Once

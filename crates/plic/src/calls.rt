@@ -15,8 +15,27 @@ use model::Settings;
 use model::State;
 
 ghost use mathlib.Core.Path.{_≡_};
-ghost use Rattle.model.specs.Refusals.{answered};
+ghost use Rattle.model.specs.Refusals.{numberOf, answered};
 ghost use Rattle.model.specs.Calls.{line, advance, read, write, notification, respond};
+
+// The table's number of a refusal.
+pub fn number_of(why: Refusal) -> u32
+    ensures { λ r. ⌜ r ≡ numberOf why ⌝ }
+{
+    match why {
+        Refusal::BadShape => 1,
+        Refusal::NotSound => 2,
+        Refusal::NoStepLeft => 3,
+        Refusal::OffsetAbove => 4,
+        Refusal::OffsetUnaligned => 5,
+        Refusal::NoSuchSource => 6,
+        Refusal::NoSuchContext => 7,
+        Refusal::ClockPast => 8,
+        Refusal::PerMilleOutside => 9,
+        Refusal::NothingToDivide => 10,
+        Refusal::Unreadable => 11,
+    }
+}
 
 // A refusal, with the state as it was handed in.
 pub(crate) fn refused(state: State, why: Refusal) -> Answered

@@ -15,6 +15,7 @@ mod words;
 pub use calls::advance;
 pub use calls::line;
 pub use calls::notification;
+pub use calls::number_of;
 pub use calls::read;
 pub use calls::write;
 pub use making::make;

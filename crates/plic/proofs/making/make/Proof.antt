@@ -28,7 +28,7 @@ refused-requires : tie.Need-refused-requires
 refused-requires c κs = search needs
 
 returns : tie.Need-returns
-unfolding answered answerNumber answerValues numberOf make kindsFor
+unfolding answered answerNumber answerValues make kindsFor
 returns c = 
     let a = c .before .before .before .before .before .args in
     let un = unmade-when (a .n) (a .m) (a .b) (a .kinds .now) (and-fails-left _ (sym (c .before .before .before .within-limits .ensures) ∙ not-true _ (c .before .before .if1 .taken))) in
@@ -41,7 +41,7 @@ refused-requires-2 : tie.Need-refused-requires-2
 refused-requires-2 c κs = search needs
 
 returns-2 : tie.Need-returns-2
-unfolding answered answerNumber answerValues numberOf make kindsFor
+unfolding answered answerNumber answerValues make kindsFor
 returns-2 c = 
     let a = c .before .before .before .before .before .before .args in
     let un = unmade-when (a .n) (a .m) (a .b) (a .kinds .now) (and-fails-right (withinLimits (a .n) (a .m) (a .b)) (and-fails-left _ (ne-eqb _ _ (c .before .before .if2 .taken)))) in
@@ -57,7 +57,7 @@ refused-requires-3 : tie.Need-refused-requires-3
 refused-requires-3 c κs = search needs
 
 returns-3 : tie.Need-returns-3
-unfolding answered answerNumber answerValues numberOf make kindsFor
+unfolding answered answerNumber answerValues make kindsFor
 returns-3 c = 
     let a = c .before .before .before .before .before .before .before .before .args in
     let un = unmade-when (a .n) (a .m) (a .b) (a .kinds .now) (and-fails-right (withinLimits (a .n) (a .m) (a .b)) (and-fails-right (eqb (length (a .kinds .now)) (a .n)) (sym (c .before .before .before .kinds-known .ensures) ∙ not-true _ (c .before .before .if3 .taken)))) in

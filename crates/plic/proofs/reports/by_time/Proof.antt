@@ -33,7 +33,7 @@ refused-requires : tie.Need-refused-requires
 refused-requires c κs = search needs
 
 returns : tie.Need-returns
-unfolding answered answerNumber answerValues numberOf valuesOf grounds after effect isStep boardClaims boardWaited sourceClaims sourceWaited bucketClaims bucketTicks
+unfolding answered answerNumber answerValues valuesOf grounds after effect isStep boardClaims boardWaited sourceClaims sourceWaited bucketClaims bucketTicks
 returns c = 
     let s = c .before .before .before .args .t1 in
     ap answered (c .refused .ensures) ∙ sym (refused-as (byTime (c .before .before .before .args .per-mille)) s NotSound (unsound s _ (sym (c .before .before .is-sound .ensures) ∙ not-true _ (c .before .if1 .taken))))
@@ -42,7 +42,7 @@ refused-requires-2 : tie.Need-refused-requires-2
 refused-requires-2 c κs = search needs
 
 returns-2 : tie.Need-returns-2
-unfolding answered answerNumber answerValues numberOf valuesOf grounds after effect isStep boardClaims boardWaited sourceClaims sourceWaited bucketClaims bucketTicks
+unfolding answered answerNumber answerValues valuesOf grounds after effect isStep boardClaims boardWaited sourceClaims sourceWaited bucketClaims bucketTicks
 returns-2 c = 
     let s = c .before .before .before .before .args .t1 in
     ap answered (c .refused2 .ensures) ∙ sym (refused-as (byTime (c .before .before .before .before .args .per-mille)) s PerMilleOutside (passes s _ (sym (c .before .before .before .is-sound .ensures) ∙ not-false _ (c .before .before .if1 .left)) ∙ outside _ _ (not-true _ (c .before .if2 .taken))))
@@ -54,7 +54,7 @@ refused-requires-3 : tie.Need-refused-requires-3
 refused-requires-3 c κs = search needs
 
 returns-3 : tie.Need-returns-3
-unfolding answered answerNumber answerValues numberOf valuesOf grounds after effect isStep boardClaims boardWaited sourceClaims sourceWaited bucketClaims bucketTicks
+unfolding answered answerNumber answerValues valuesOf grounds after effect isStep boardClaims boardWaited sourceClaims sourceWaited bucketClaims bucketTicks
 returns-3 c = 
     let s = c .before .before .before .before .before .before .before .before .args .t1 in
     ap answered (c .refused3 .ensures)
@@ -71,7 +71,7 @@ percentile-of-requires c κs =
         omega (arith, c .before .before .before .source-total .ensures, waited-fit s sound))
 
 returns-4 : tie.Need-returns-4
-unfolding answered answerNumber answerValues numberOf valuesOf grounds after effect isStep boardClaims boardWaited sourceClaims sourceWaited bucketClaims bucketTicks
+unfolding answered answerNumber answerValues valuesOf grounds after effect isStep boardClaims boardWaited sourceClaims sourceWaited bucketClaims bucketTicks
 returns-4 c = 
     let s = c .before .before .before .before .before .before .before .before .before .before .args .t1 in
     (λ i. record { number = 0; values = (c .percentile-of .ensures) i ∷ []; state = s })

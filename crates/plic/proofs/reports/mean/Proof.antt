@@ -30,14 +30,14 @@ is-sound-requires : tie.Need-is-sound-requires
 is-sound-requires c κs = search needs
 
 returns : tie.Need-returns
-unfolding averaged meanNumber meanValues numberOf valuesOf grounds after effect isStep boardClaims boardWaited sourceClaims sourceWaited
+unfolding averaged meanNumber meanValues valuesOf grounds after effect isStep boardClaims boardWaited sourceClaims sourceWaited
 returns c = sym (refused-as mean (c .before .before .args .t1) NotSound (unsound _ _ (sym (c .before .is-sound .ensures) ∙ not-true _ (c .if1 .taken))))
 
 source-total-requires : tie.Need-source-total-requires
 source-total-requires c κs = search needs
 
 returns-2 : tie.Need-returns-2
-unfolding averaged meanNumber meanValues numberOf valuesOf grounds after effect isStep boardClaims boardWaited sourceClaims sourceWaited
+unfolding averaged meanNumber meanValues valuesOf grounds after effect isStep boardClaims boardWaited sourceClaims sourceWaited
 returns-2 c = sym (refused-as mean (c .before .before .before .before .before .before .args .t1) NothingToDivide (passes _ _ (sym (c .before .before .before .before .before .is-sound .ensures) ∙ not-false _ (c .before .before .before .before .if1 .left)) ∙ nothing _ _ (sym (c .before .source-total .ensures) ∙ c .if2 .taken)))
 
 source-total-requires-2 : tie.Need-source-total-requires-2
@@ -48,7 +48,7 @@ unfolding boardClaims sourceClaims
 cast-t16 c = omega (arith, c .before .before .before .before .source-total .ensures, claims-fit (c .before .before .before .before .before .before .before .before .before .args .t1) (sound-facts _ (sym (c .before .before .before .before .before .before .before .before .is-sound .ensures) ∙ not-false _ (c .before .before .before .before .before .before .before .if1 .left))))
 
 returns-3 : tie.Need-returns-3
-unfolding averaged meanNumber meanValues numberOf valuesOf grounds after effect isStep boardClaims boardWaited sourceClaims sourceWaited
+unfolding averaged meanNumber meanValues valuesOf grounds after effect isStep boardClaims boardWaited sourceClaims sourceWaited
 returns-3 c = 
     let s = c .before .before .before .before .before .before .before .before .before .args .t1 in
     (λ i. record { number = 0; values = c .source-total2 .ensures i ∷ c .before .before .before .before .source-total .ensures i ∷ []; state = s })

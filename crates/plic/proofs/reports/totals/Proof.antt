@@ -30,7 +30,7 @@ is-sound-requires : tie.Need-is-sound-requires
 is-sound-requires c κs = search needs
 
 returns : tie.Need-returns
-unfolding totalled totalsNumber totalsValues numberOf valuesOf grounds after effect isStep boardClaims boardWaited boardOpen sourceClaims sourceWaited openAge isPending request openAgeIn
+unfolding totalled totalsNumber totalsValues valuesOf grounds after effect isStep boardClaims boardWaited boardOpen sourceClaims sourceWaited openAge isPending request openAgeIn
 returns c = sym (refused-as totals (c .before .before .args .t1) NotSound (unsound _ _ (sym (c .before .is-sound .ensures) ∙ not-true _ (c .if1 .taken))))
 
 source-total-requires : tie.Need-source-total-requires
@@ -47,7 +47,7 @@ unfolding boardClaims sourceClaims
 cast-t17 c = omega (arith, c .before .before .before .before .before .before .before .source-total .ensures, claims-fit (c .before .before .before .before .before .before .before .before .before .before .before .before .args .t1) (sound-facts _ (sym (c .before .before .before .before .before .before .before .before .before .before .before .is-sound .ensures) ∙ not-false _ (c .before .before .before .before .before .before .before .before .before .before .if1 .left))))
 
 returns-2 : tie.Need-returns-2
-unfolding totalled totalsNumber totalsValues numberOf valuesOf grounds after effect isStep boardClaims boardWaited boardOpen sourceClaims sourceWaited openAge isPending request openAgeIn
+unfolding totalled totalsNumber totalsValues valuesOf grounds after effect isStep boardClaims boardWaited boardOpen sourceClaims sourceWaited openAge isPending request openAgeIn
 returns-2 c = 
     let s = c .before .before .before .before .before .before .before .before .before .before .before .before .args .t1 in
     (λ i. record { number = 0; values = s .clock ∷ c .before .before .before .before .before .before .before .source-total .ensures i ∷ c .before .before .before .before .source-total2 .ensures i ∷ c .open-total .ensures i ∷ []; state = s })
