@@ -134,6 +134,7 @@ bit-even-suc v j = ap (λ (x : ℕ). eqb (x % 2) 1) (halves (v - v % 2) ∙ ap (
   where
     half : (v - v % 2) / 2 ≡ v / 2
     half = omega arith
+
     halves : (x : ℕ) → x / 2 ^ suc j ≡ x / 2 / 2 ^ j
     halves x = ap (λ (y : ℕ). x / y) (pow-suc 2 j ∙ mul-comm (2 ^ j) 2) ∙ sym (div-div-eq-div-mul x 2 (2 ^ j))
 

@@ -194,4 +194,3 @@ unfolding respond
 accepted-as a s e =
     let holds = eq-eqb (firstOf (grounds a s)) 0 e in
     λ i. record { number = e i; values = cond-so (valuesOf a s) (replicate (length (valuesOf a s)) 0) holds i; state = cond-so (after a s) s holds i }
-

@@ -46,9 +46,8 @@ module _ (counts : ℕ → ℕ) (p : ℕ) (most : p ≤ 1000) where
   unfolding percentile reaches
   percentile-found k h here passed = ap upperEnd (first-once (reaches counts p) 33
       (record {
-          within = omega arith;
-          before = λ j l t. absurd (omega (arith, passed j l, leb-true (p * sumTo counts 33) (sumTo counts (suc j) * 1000) t));
-          found = λ _. le-leb (p * sumTo counts 33) (sumTo counts (suc k) * 1000) here
+        within = omega arith;
+        before = λ j l t. absurd (omega (arith, passed j l, leb-true (p * sumTo counts 33) (sumTo counts (suc j) * 1000) t));
+        found = λ _. le-leb (p * sumTo counts 33) (sumTo counts (suc k) * 1000) here;
       })
       (first-is (reaches counts p) 33))
-

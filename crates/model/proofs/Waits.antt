@@ -79,8 +79,8 @@ module _ (w : ℕ) where
   unfolding bucketOf test
   bucket-found k h passed here = first-once test 33
       (record {
-          within = omega arith;
-          before = λ j l t. absurd (omega (arith, passed j l, leb-true w (upperEnd j) t));
-          found = λ _. le-leb w (upperEnd k) here
+        within = omega arith;
+        before = λ j l t. absurd (omega (arith, passed j l, leb-true w (upperEnd j) t));
+        found = λ _. le-leb w (upperEnd k) here;
       })
       (first-is test 33)

@@ -29,13 +29,13 @@ bucketsOf claims ticks = record { claims = claims; ticks = ticks }
 abbrev pub stateOf : ℕ → ℕ → ℕ → List ℕ → ℕ → ℕ → List ℕ → List ℕ → List ℕ →
     Requests → Counts → Buckets → State
 stateOf n m b kind clock steps priority enable threshold requests counts buckets = record {
-    shape = record { sources = n; contexts = m; bits = b; kind = kind };
-    clock = clock;
-    steps = steps;
-    settings = record { priority = priority; enable = enable; threshold = threshold };
-    requests = requests;
-    counts = counts;
-    buckets = buckets
+  shape = record { sources = n; contexts = m; bits = b; kind = kind };
+  clock = clock;
+  steps = steps;
+  settings = record { priority = priority; enable = enable; threshold = threshold };
+  requests = requests;
+  counts = counts;
+  buckets = buckets;
 }
 
 -- a sound state in which one step more may be taken
@@ -71,4 +71,3 @@ pub record Claimed (clock w : ℕ) (stage start stage′ start′ : List ℕ) (c
   pub starts : start′ ≡ cond (eqb w 0) start (set start w 0)
   pub counted : counts′ ≡ cond (eqb w 0) counts (counted counts w (clock - getD start w 0))
   pub booked : buckets′ ≡ cond (eqb w 0) buckets (booked buckets (clock - getD start w 0))
-

@@ -1,6 +1,5 @@
 // The choice of a claim's winner, and whether a context is notified. Leaves: lent arrays, no state.
 use crate::words::is_enabled;
-
 ghost use mathlib.Core.Path.{_≡_};
 ghost use mathlib.Core.Bool.{cond, _&&_};
 ghost use Prim.Native.Nat.{ℕ, _<_, _≤_};
@@ -22,7 +21,13 @@ fn rank_of(stage: &[u8; 128], priority: &[u8; 128], enable: &[u32; 32], c: usize
 }
 
 // The source that a claim by context c gives: the highest priority, then the lowest ID; 0 where nothing is eligible.
-pub(crate) fn winner(stage: &[u8; 128], priority: &[u8; 128], enable: &[u32; 32], n: usize, c: usize) -> usize
+pub(crate) fn winner(
+    stage: &[u8; 128],
+    priority: &[u8; 128],
+    enable: &[u32; 32],
+    n: usize,
+    c: usize,
+) -> usize
     requires { ⌜ (n < 128) × (c < 8) ⌝ }
     ensures { λ r. ⌜ r ≡ winnerIn n (now (stage .entry)) (now (priority .entry)) (now (enable .entry)) c ⌝ }
 {
@@ -41,7 +46,14 @@ pub(crate) fn winner(stage: &[u8; 128], priority: &[u8; 128], enable: &[u32; 32]
 }
 
 // Whether some pending source enabled in context c has a priority above the threshold.
-pub(crate) fn is_notified<'a>(stage: &'a [u8; 128], priority: &'a [u8; 128], enable: &'a [u32; 32], threshold: u8, n: usize, c: usize) -> bool
+pub(crate) fn is_notified<'a>(
+    stage: &'a [u8; 128],
+    priority: &'a [u8; 128],
+    enable: &'a [u32; 32],
+    threshold: u8,
+    n: usize,
+    c: usize,
+) -> bool
     requires { ⌜ (n < 128) × (c < 8) ⌝ }
     ensures { λ r. ⌜ r ≡ notifiedIn n (now (stage .entry)) (now (priority .entry)) (now (enable .entry)) threshold c ⌝ }
 {

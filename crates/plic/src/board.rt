@@ -9,7 +9,6 @@ use crate::steps::set_line;
 use crate::words::kept_bits;
 use crate::words::pending_word;
 use model::Register;
-
 ghost use mathlib.Core.Path.{_≡_};
 ghost use mathlib.Core.Bool.{So};
 ghost use Prim.Native.Nat.{ℕ, _%_};
@@ -26,7 +25,27 @@ fn value_of(x: u8) -> u32
 }
 
 // Source i's line is set to a level.
-pub(crate) fn line_on<'a>(n: u32, m: u32, b: u32, clock: u32, steps: u32, kind: &'a [u8; 128], priority: &'a [u8; 128], enable: &'a [u32; 32], threshold: &'a [u8; 8], stage: &mut [u8; 128], line: &mut [bool; 128], extra: &mut [u8; 128], start: &mut [u32; 128], claims: &'a [u32; 128], waited: &'a [u32; 128], bucket_claims: &'a [u32; 33], bucket_ticks: &'a [u64; 33], i: u32, level: bool)
+pub(crate) fn line_on<'a>(
+    n: u32,
+    m: u32,
+    b: u32,
+    clock: u32,
+    steps: u32,
+    kind: &'a [u8; 128],
+    priority: &'a [u8; 128],
+    enable: &'a [u32; 32],
+    threshold: &'a [u8; 8],
+    stage: &mut [u8; 128],
+    line: &mut [bool; 128],
+    extra: &mut [u8; 128],
+    start: &mut [u32; 128],
+    claims: &'a [u32; 128],
+    waited: &'a [u32; 128],
+    bucket_claims: &'a [u32; 33],
+    bucket_ticks: &'a [u64; 33],
+    i: u32,
+    level: bool,
+)
     requires { ⌜ Ready (stateOf n m b (now kind) clock steps (now priority) (now enable) (now threshold) (requestsOf (now stage) (now line) (now extra) (now start)) (countsOf (now claims) (now waited)) (bucketsOf (now «bucket_claims») (now «bucket_ticks»))) × So (isSource n i) ⌝ }
     ensures { λ _. ⌜ stateOf n m b (now (kind .entry)) clock steps (now (priority .entry)) (now (enable .entry)) (now (threshold .entry)) (requestsOf (now (stage .exit)) (now (line .exit)) (now (extra .exit)) (now (start .exit))) (countsOf (now (claims .entry)) (now (waited .entry))) (bucketsOf (now («bucket_claims» .entry)) (now («bucket_ticks» .entry))) ≡ lineChange (stateOf n m b (now (kind .entry)) clock steps (now (priority .entry)) (now (enable .entry)) (now (threshold .entry)) (requestsOf (now (stage .entry)) (now (line .entry)) (now (extra .entry)) (now (start .entry))) (countsOf (now (claims .entry)) (now (waited .entry))) (bucketsOf (now («bucket_claims» .entry)) (now («bucket_ticks» .entry)))) i level ⌝ }
 {
@@ -35,7 +54,26 @@ pub(crate) fn line_on<'a>(n: u32, m: u32, b: u32, clock: u32, steps: u32, kind: 
 }
 
 // What a read of an aligned offset gives; a read of a claim register claims.
-pub(crate) fn read_on<'a>(n: u32, m: u32, b: u32, clock: u32, steps: u32, kind: &'a [u8; 128], priority: &'a [u8; 128], enable: &'a [u32; 32], threshold: &'a [u8; 8], stage: &mut [u8; 128], line: &'a [bool; 128], extra: &'a [u8; 128], start: &mut [u32; 128], claims: &mut [u32; 128], waited: &mut [u32; 128], bucket_claims: &mut [u32; 33], bucket_ticks: &mut [u64; 33], offset: u32) -> u32
+pub(crate) fn read_on<'a>(
+    n: u32,
+    m: u32,
+    b: u32,
+    clock: u32,
+    steps: u32,
+    kind: &'a [u8; 128],
+    priority: &'a [u8; 128],
+    enable: &'a [u32; 32],
+    threshold: &'a [u8; 8],
+    stage: &mut [u8; 128],
+    line: &'a [bool; 128],
+    extra: &'a [u8; 128],
+    start: &mut [u32; 128],
+    claims: &mut [u32; 128],
+    waited: &mut [u32; 128],
+    bucket_claims: &mut [u32; 33],
+    bucket_ticks: &mut [u64; 33],
+    offset: u32,
+) -> u32
     requires { ⌜ Ready (stateOf n m b (now kind) clock steps (now priority) (now enable) (now threshold) (requestsOf (now stage) (now line) (now extra) (now start)) (countsOf (now claims) (now waited)) (bucketsOf (now «bucket_claims») (now «bucket_ticks»))) × (offset % 4 ≡ 0) ⌝ }
     ensures { λ r. ⌜ (let s = stateOf n m b (now (kind .entry)) clock steps (now (priority .entry)) (now (enable .entry)) (now (threshold .entry)) (requestsOf (now (stage .entry)) (now (line .entry)) (now (extra .entry)) (now (start .entry))) (countsOf (now (claims .entry)) (now (waited .entry))) (bucketsOf (now («bucket_claims» .entry)) (now («bucket_ticks» .entry))) in (r ≡ readOf s (decode n m offset)) × (stateOf n m b (now (kind .entry)) clock steps (now (priority .entry)) (now (enable .entry)) (now (threshold .entry)) (requestsOf (now (stage .exit)) (now (line .entry)) (now (extra .entry)) (now (start .exit))) (countsOf (now (claims .exit)) (now (waited .exit))) (bucketsOf (now («bucket_claims» .exit)) (now («bucket_ticks» .exit))) ≡ afterRead s (decode n m offset))) ⌝ }
 {
@@ -45,13 +83,45 @@ pub(crate) fn read_on<'a>(n: u32, m: u32, b: u32, clock: u32, steps: u32, kind: 
         Register::Pending(w) => pending_word(stage, w),
         Register::Enable(c, w) => enable[c * 4 + w],
         Register::Threshold(c) => value_of(threshold[c]),
-        Register::Claim(c) => claim(n as usize, c, clock, priority, enable, stage, start, claims, waited, bucket_claims, bucket_ticks) as u32,
+        Register::Claim(c) => claim(
+            n as usize,
+            c,
+            clock,
+            priority,
+            enable,
+            stage,
+            start,
+            claims,
+            waited,
+            bucket_claims,
+            bucket_ticks,
+        ) as u32,
         Register::Nothing => 0,
     }
 }
 
 // What a write to an aligned offset does; a write to a claim register completes.
-pub(crate) fn write_on<'a>(n: u32, m: u32, b: u32, clock: u32, steps: u32, kind: &'a [u8; 128], priority: &mut [u8; 128], enable: &mut [u32; 32], threshold: &mut [u8; 8], stage: &mut [u8; 128], line: &'a [bool; 128], extra: &mut [u8; 128], start: &mut [u32; 128], claims: &'a [u32; 128], waited: &'a [u32; 128], bucket_claims: &'a [u32; 33], bucket_ticks: &'a [u64; 33], offset: u32, v: u32)
+pub(crate) fn write_on<'a>(
+    n: u32,
+    m: u32,
+    b: u32,
+    clock: u32,
+    steps: u32,
+    kind: &'a [u8; 128],
+    priority: &mut [u8; 128],
+    enable: &mut [u32; 32],
+    threshold: &mut [u8; 8],
+    stage: &mut [u8; 128],
+    line: &'a [bool; 128],
+    extra: &mut [u8; 128],
+    start: &mut [u32; 128],
+    claims: &'a [u32; 128],
+    waited: &'a [u32; 128],
+    bucket_claims: &'a [u32; 33],
+    bucket_ticks: &'a [u64; 33],
+    offset: u32,
+    v: u32,
+)
     requires { ⌜ Ready (stateOf n m b (now kind) clock steps (now priority) (now enable) (now threshold) (requestsOf (now stage) (now line) (now extra) (now start)) (countsOf (now claims) (now waited)) (bucketsOf (now «bucket_claims») (now «bucket_ticks»))) × (offset % 4 ≡ 0) ⌝ }
     ensures { λ _. ⌜ stateOf n m b (now (kind .entry)) clock steps (now (priority .exit)) (now (enable .exit)) (now (threshold .exit)) (requestsOf (now (stage .exit)) (now (line .entry)) (now (extra .exit)) (now (start .exit))) (countsOf (now (claims .entry)) (now (waited .entry))) (bucketsOf (now («bucket_claims» .entry)) (now («bucket_ticks» .entry))) ≡ afterWrite (stateOf n m b (now (kind .entry)) clock steps (now (priority .entry)) (now (enable .entry)) (now (threshold .entry)) (requestsOf (now (stage .entry)) (now (line .entry)) (now (extra .entry)) (now (start .entry))) (countsOf (now (claims .entry)) (now (waited .entry))) (bucketsOf (now («bucket_claims» .entry)) (now («bucket_ticks» .entry)))) (decode n m offset) v ⌝ }
 {

@@ -13,7 +13,6 @@ use model::Refusal;
 use model::Requests;
 use model::Settings;
 use model::State;
-
 ghost use mathlib.Core.Path.{_≡_};
 ghost use Rattle.model.specs.Refusals.{numberOf, answered};
 ghost use Rattle.model.specs.Calls.{line, advance, read, write, notification, respond};
@@ -65,7 +64,27 @@ pub fn line(state: State, source: u32, level: bool) -> Answered
     let mut level_of = state.requests.line;
     let mut extra = state.requests.extra;
     let mut start = state.requests.start;
-    line_on(n, state.shape.contexts, state.shape.bits, state.clock, state.steps, &state.shape.kind, &state.settings.priority, &state.settings.enable, &state.settings.threshold, &mut stage, &mut level_of, &mut extra, &mut start, &state.counts.claims, &state.counts.waited, &state.buckets.claims, &state.buckets.ticks, source, level);
+    line_on(
+        n,
+        state.shape.contexts,
+        state.shape.bits,
+        state.clock,
+        state.steps,
+        &state.shape.kind,
+        &state.settings.priority,
+        &state.settings.enable,
+        &state.settings.threshold,
+        &mut stage,
+        &mut level_of,
+        &mut extra,
+        &mut start,
+        &state.counts.claims,
+        &state.counts.waited,
+        &state.buckets.claims,
+        &state.buckets.ticks,
+        source,
+        level,
+    );
     let requests = Requests {
         stage: stage,
         line: level_of,
@@ -126,7 +145,26 @@ pub fn read(state: State, offset: u32) -> Answered
     let mut waited = state.counts.waited;
     let mut bucket_claims = state.buckets.claims;
     let mut bucket_ticks = state.buckets.ticks;
-    let value = read_on(state.shape.sources, state.shape.contexts, state.shape.bits, state.clock, state.steps, &state.shape.kind, &state.settings.priority, &state.settings.enable, &state.settings.threshold, &mut stage, &state.requests.line, &state.requests.extra, &mut start, &mut claims, &mut waited, &mut bucket_claims, &mut bucket_ticks, offset);
+    let value = read_on(
+        state.shape.sources,
+        state.shape.contexts,
+        state.shape.bits,
+        state.clock,
+        state.steps,
+        &state.shape.kind,
+        &state.settings.priority,
+        &state.settings.enable,
+        &state.settings.threshold,
+        &mut stage,
+        &state.requests.line,
+        &state.requests.extra,
+        &mut start,
+        &mut claims,
+        &mut waited,
+        &mut bucket_claims,
+        &mut bucket_ticks,
+        offset,
+    );
     let line = state.requests.line;
     let extra = state.requests.extra;
     let requests = Requests {
@@ -177,7 +215,27 @@ pub fn write(state: State, offset: u32, value: u32) -> Answered
     let mut stage = state.requests.stage;
     let mut extra = state.requests.extra;
     let mut start = state.requests.start;
-    write_on(state.shape.sources, state.shape.contexts, state.shape.bits, state.clock, state.steps, &state.shape.kind, &mut priority, &mut enable, &mut threshold, &mut stage, &state.requests.line, &mut extra, &mut start, &state.counts.claims, &state.counts.waited, &state.buckets.claims, &state.buckets.ticks, offset, value);
+    write_on(
+        state.shape.sources,
+        state.shape.contexts,
+        state.shape.bits,
+        state.clock,
+        state.steps,
+        &state.shape.kind,
+        &mut priority,
+        &mut enable,
+        &mut threshold,
+        &mut stage,
+        &state.requests.line,
+        &mut extra,
+        &mut start,
+        &state.counts.claims,
+        &state.counts.waited,
+        &state.buckets.claims,
+        &state.buckets.ticks,
+        offset,
+        value,
+    );
     let settings = Settings {
         priority: priority,
         enable: enable,
@@ -214,7 +272,14 @@ pub fn notification(state: State, context: u32) -> Answered
     let n = state.shape.sources as usize;
     let settings = state.settings;
     let threshold = settings.threshold[c];
-    if is_notified(&state.requests.stage, &state.settings.priority, &state.settings.enable, threshold, n, c) {
+    if is_notified(
+        &state.requests.stage,
+        &state.settings.priority,
+        &state.settings.enable,
+        threshold,
+        n,
+        c,
+    ) {
         return Answered {
             answer: Answer::Value(1),
             state: state,

@@ -10,7 +10,6 @@ use model::Requests;
 use model::Settings;
 use model::Shape;
 use model::State;
-
 ghost use mathlib.Core.Path.{_≡_};
 ghost use mathlib.Core.List.{_∷_, _++_};
 ghost use Prim.Native.Nat.{ℕ, _-_, _≤_};

@@ -1,6 +1,5 @@
 // The register map: an aligned offset decoded into a register. A leaf: numbers only.
 use model::Register;
-
 ghost use mathlib.Core.Path.{_≡_};
 ghost use Prim.Native.Nat.{ℕ};
 ghost use Rattle.model.specs.Registers.{decode, priorityAt, pendingAt, enableAt, pageAt};
@@ -60,5 +59,9 @@ pub(crate) fn register_at(n: u32, m: u32, offset: u32) -> Register
     if offset < 0x200000 {
         return enable_at(n, m, (offset - 0x2000) / 0x80, (offset - 0x2000) % 0x80 / 4);
     }
-    page_at(m, (offset - 0x200000) / 0x1000, (offset - 0x200000) % 0x1000)
+    page_at(
+        m,
+        (offset - 0x200000) / 0x1000,
+        (offset - 0x200000) % 0x1000,
+    )
 }

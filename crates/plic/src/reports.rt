@@ -13,7 +13,6 @@ use model::Refusal;
 use model::State;
 use model::Totalled;
 use model::Totals;
-
 ghost use mathlib.Core.Path.{_≡_};
 ghost use Prim.Native.Nat.{ℕ, _+_, _*_, _≤_, _<_};
 ghost use lib.ListN.{length, getD};

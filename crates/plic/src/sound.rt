@@ -4,7 +4,6 @@ use crate::words::power;
 use crate::words::wide;
 use model::Request;
 use model::State;
-
 ghost use mathlib.Core.Path.{_≡_};
 ghost use mathlib.Core.Bool.{Bool, _&&_};
 ghost use Prim.Native.Nat.{ℕ, _+_, _-_, _*_, _^_, _≤_, _<_};
@@ -29,18 +28,57 @@ pub(crate) fn open_age(clock: u32, stage: u8, start: u32) -> u32
 }
 
 // The clauses on one source.
-fn source_sound(kind: u8, here: bool, most: u8, clock: u32, priority: u8, claims: u32, waited: u32, r: Request) -> bool
+fn source_sound(
+    kind: u8,
+    here: bool,
+    most: u8,
+    clock: u32,
+    priority: u8,
+    claims: u32,
+    waited: u32,
+    r: Request,
+) -> bool
     ensures { λ k. ⌜ k ≡ soundSource kind here most clock priority claims waited r ⌝ }
 {
     let pending = r.stage == 1;
     let idle = r.stage == 0;
     let age = open_age(clock, r.stage, r.start);
-    let zero = (kind == 0) & (priority == 0) & idle & !r.line & (r.extra == 0) & (r.start == 0) & (claims == 0) & (waited == 0);
-    (kind <= 2) & (here | zero) & (priority <= most) & (r.stage <= 2) & (r.start <= clock) & (pending | (r.start == 0)) & (r.extra <= 255) & ((kind == 2) | (r.extra == 0)) & (!idle | (r.extra == 0)) & !((kind == 0) & idle & r.line) & ((waited as u64) + (age as u64) <= (clock as u64))
+    let zero = (kind == 0)
+        & (priority == 0)
+        & idle
+        & !r.line
+        & (r.extra == 0)
+        & (r.start == 0)
+        & (claims == 0)
+        & (waited == 0);
+    (kind <= 2)
+        & (here | zero)
+        & (priority <= most)
+        & (r.stage <= 2)
+        & (r.start <= clock)
+        & (pending | (r.start == 0))
+        & (r.extra <= 255)
+        & ((kind == 2) | (r.extra == 0))
+        & (!idle | (r.extra == 0))
+        & !((kind == 0) & idle & r.line)
+        & ((waited as u64) + (age as u64) <= (clock as u64))
 }
 
 // The clauses on source i.
-fn source_sound_at<'a>(n: u32, most: u8, clock: u32, kind: &'a [u8; 128], priority: &'a [u8; 128], stage: &'a [u8; 128], line: &'a [bool; 128], extra: &'a [u8; 128], start: &'a [u32; 128], claims: &'a [u32; 128], waited: &'a [u32; 128], i: usize) -> bool
+fn source_sound_at<'a>(
+    n: u32,
+    most: u8,
+    clock: u32,
+    kind: &'a [u8; 128],
+    priority: &'a [u8; 128],
+    stage: &'a [u8; 128],
+    line: &'a [bool; 128],
+    extra: &'a [u8; 128],
+    start: &'a [u32; 128],
+    claims: &'a [u32; 128],
+    waited: &'a [u32; 128],
+    i: usize,
+) -> bool
     requires { ⌜ i < 128 ⌝ }
     ensures { λ r. ⌜ r ≡ soundSourceIn n most clock (now (kind .entry)) (now (priority .entry)) (now (stage .entry)) (now (line .entry)) (now (extra .entry)) (now (start .entry)) (now (claims .entry)) (now (waited .entry)) i ⌝ }
 {
@@ -51,17 +89,51 @@ fn source_sound_at<'a>(n: u32, most: u8, clock: u32, kind: &'a [u8; 128], priori
         extra: extra[i],
         start: start[i],
     };
-    source_sound(kind[i], here, most, clock, priority[i], claims[i], waited[i], r)
+    source_sound(
+        kind[i],
+        here,
+        most,
+        clock,
+        priority[i],
+        claims[i],
+        waited[i],
+        r,
+    )
 }
 
 // The clauses on every source.
-fn sources_sound<'a>(n: u32, most: u8, clock: u32, kind: &'a [u8; 128], priority: &'a [u8; 128], stage: &'a [u8; 128], line: &'a [bool; 128], extra: &'a [u8; 128], start: &'a [u32; 128], claims: &'a [u32; 128], waited: &'a [u32; 128]) -> bool
+fn sources_sound<'a>(
+    n: u32,
+    most: u8,
+    clock: u32,
+    kind: &'a [u8; 128],
+    priority: &'a [u8; 128],
+    stage: &'a [u8; 128],
+    line: &'a [bool; 128],
+    extra: &'a [u8; 128],
+    start: &'a [u32; 128],
+    claims: &'a [u32; 128],
+    waited: &'a [u32; 128],
+) -> bool
     ensures { λ r. ⌜ r ≡ allTo (soundSourceIn n most clock (now (kind .entry)) (now (priority .entry)) (now (stage .entry)) (now (line .entry)) (now (extra .entry)) (now (start .entry)) (now (claims .entry)) (now (waited .entry))) 128 ⌝ }
 {
     let mut sound = true;
     let mut i: usize = 0;
     while i < 128 {
-        let one = source_sound_at(n, most, clock, kind, priority, stage, line, extra, start, claims, waited, i);
+        let one = source_sound_at(
+            n,
+            most,
+            clock,
+            kind,
+            priority,
+            stage,
+            line,
+            extra,
+            start,
+            claims,
+            waited,
+            i,
+        );
         sound = sound & one;
         i += 1;
     }
@@ -110,7 +182,14 @@ fn words_kept(n: u32, enable: &[u32; 32], c: usize) -> bool
 }
 
 // The clauses on one context.
-fn context_sound<'a>(n: u32, m: u32, most: u8, enable: &'a [u32; 32], threshold: &'a [u8; 8], c: usize) -> bool
+fn context_sound<'a>(
+    n: u32,
+    m: u32,
+    most: u8,
+    enable: &'a [u32; 32],
+    threshold: &'a [u8; 8],
+    c: usize,
+) -> bool
     requires { ⌜ (n ≤ 127) × (c < 8) ⌝ }
     ensures { λ r. ⌜ r ≡ soundContextIn n m most (now (enable .entry)) (now (threshold .entry)) c ⌝ }
 {
@@ -122,7 +201,13 @@ fn context_sound<'a>(n: u32, m: u32, most: u8, enable: &'a [u32; 32], threshold:
 }
 
 // The clauses on every context.
-fn contexts_sound<'a>(n: u32, m: u32, most: u8, enable: &'a [u32; 32], threshold: &'a [u8; 8]) -> bool
+fn contexts_sound<'a>(
+    n: u32,
+    m: u32,
+    most: u8,
+    enable: &'a [u32; 32],
+    threshold: &'a [u8; 8],
+) -> bool
     requires { ⌜ n ≤ 127 ⌝ }
     ensures { λ r. ⌜ r ≡ allTo (soundContextIn n m most (now (enable .entry)) (now (threshold .entry))) 8 ⌝ }
 {
@@ -194,7 +279,13 @@ fn highest(b: u32) -> u8
 }
 
 // The clauses on the sums.
-fn sums_sound<'a>(steps: u32, claims: &'a [u32; 128], waited: &'a [u32; 128], bucket_claims: &'a [u32; 33], bucket_ticks: &'a [u64; 33]) -> bool
+fn sums_sound<'a>(
+    steps: u32,
+    claims: &'a [u32; 128],
+    waited: &'a [u32; 128],
+    bucket_claims: &'a [u32; 33],
+    bucket_ticks: &'a [u64; 33],
+) -> bool
     ensures { λ r. ⌜ r ≡ (leb (sumTo (λ i. getD (now (claims .entry)) i 0) 128) steps && (eqb (sumTo (λ i. getD (now (claims .entry)) i 0) 128) (sumTo (λ k. getD (now («bucket_claims» .entry)) k 0) 33) && eqb (sumTo (λ i. getD (now (waited .entry)) i 0) 128) (sumTo (λ k. getD (now («bucket_ticks» .entry)) k 0) 33))) ⌝ }
 {
     let claimed = source_total(claims);
@@ -215,8 +306,32 @@ pub fn is_sound(state: State) -> bool
         return false;
     }
     let most = highest(b);
-    let sources = sources_sound(n, most, state.clock, &state.shape.kind, &state.settings.priority, &state.requests.stage, &state.requests.line, &state.requests.extra, &state.requests.start, &state.counts.claims, &state.counts.waited);
-    let contexts = contexts_sound(n, m, most, &state.settings.enable, &state.settings.threshold);
-    let sums = sums_sound(state.steps, &state.counts.claims, &state.counts.waited, &state.buckets.claims, &state.buckets.ticks);
+    let sources = sources_sound(
+        n,
+        most,
+        state.clock,
+        &state.shape.kind,
+        &state.settings.priority,
+        &state.requests.stage,
+        &state.requests.line,
+        &state.requests.extra,
+        &state.requests.start,
+        &state.counts.claims,
+        &state.counts.waited,
+    );
+    let contexts = contexts_sound(
+        n,
+        m,
+        most,
+        &state.settings.enable,
+        &state.settings.threshold,
+    );
+    let sums = sums_sound(
+        state.steps,
+        &state.counts.claims,
+        &state.counts.waited,
+        &state.buckets.claims,
+        &state.buckets.ticks,
+    );
     sources & (contexts & sums)
 }

@@ -74,9 +74,5 @@ pub(crate) fn kept_bits(n: u32, w: u32, v: u32) -> u32
     ensures { λ r. ⌜ r ≡ kept n w v ⌝ }
 {
     let low = low_bits(v, n + 1 - w * 32);
-    if w == 0 {
-        low - low % 2
-    } else {
-        low
-    }
+    if w == 0 { low - low % 2 } else { low }
 }

@@ -1,0 +1,5 @@
+pub mod Words
+pub mod Digits
+pub mod Last
+pub mod Letters
+pub mod Places
