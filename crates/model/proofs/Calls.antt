@@ -179,6 +179,11 @@ pub first-miss : (g : Ground) (gs : List Ground) → g .holds ≡ false → firs
 unfolding firstOf
 first-miss g gs e = cond-not (g .number) (firstOf gs) e
 
+-- where the number is 0, no refusal's case holds
+pub clear : (a : Call) (s : State) → firstOf (grounds a s) ≡ 0 → (g : Ground) → List·Memᴰ g (grounds a s) → g .holds ≡ false
+unfolding respond
+clear a s e = none-holds a s e
+
 -- the outcome of a call, by the number
 pub refused-as : (a : Call) (s : State) (r : Refusal) → firstOf (grounds a s) ≡ numberOf r →
     respond a s ≡ record { number = numberOf r; values = replicate (length (valuesOf a s)) 0; state = s }

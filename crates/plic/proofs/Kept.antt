@@ -22,22 +22,24 @@ place : (n w v j : ℕ) → w * 32 ≤ n → 1 ≤ w * 32 + j → v < 2 ^ 32 →
 place n w v j h pos fits = ⊎-elim
     (λ (t : So (ltb j 32)). kept-bit n w v j (ltb-true j 32 t) ∙ inside)
     (λ t. kept-above n w v j (ltb-false j 32 t)
-        ∙ sym (bit-above cut 32 j (lt-of-le-of-lt (mod-le v (2 ^ m)) fits) (ltb-false j 32 t)))
+    ∙ sym (bit-above cut 32 j (lt-of-le-of-lt (mod-le v (2 ^ m)) fits) (ltb-false j 32 t)))
     (dichotomy (ltb j 32))
   where
     m : ℕ
     m = n + 1 - w * 32
+
     cut : ℕ
     cut = v % 2 ^ m
+
     inside : (bit v j && isSource n (w * 32 + j)) ≡ bit cut j
     inside = ⊎-elim
         (λ (t : So (ltb j m)).
-            ap (λ (b : Bool). bit v j && b) (range-source n (w * 32 + j) pos (omega (arith, ltb-true j m t)))
-            ∙ and-true (bit v j) ∙ sym (bit-cut v m j (ltb-true j m t)))
+        ap (λ (b : Bool). bit v j && b) (range-source n (w * 32 + j) pos (omega (arith, ltb-true j m t)))
+        ∙ and-true (bit v j) ∙ sym (bit-cut v m j (ltb-true j m t)))
         (λ t.
-            ap (λ (b : Bool). bit v j && b)
-            (so-not (isSource n (w * 32 + j)) (λ s. absurd (omega (arith, ltb-false j m t, source-range n (w * 32 + j) s .1))))
-            ∙ and-false (bit v j) ∙ sym (bit-above cut m j (mod-lt v (pow-pos m)) (ltb-false j m t)))
+        ap (λ (b : Bool). bit v j && b)
+        (so-not (isSource n (w * 32 + j)) (λ s. absurd (omega (arith, ltb-false j m t, source-range n (w * 32 + j) s .1))))
+        ∙ and-false (bit v j) ∙ sym (bit-above cut m j (mod-lt v (pow-pos m)) (ltb-false j m t)))
         (dichotomy (ltb j m))
 
 -- a word above the first
@@ -50,8 +52,10 @@ kept-first n v fits = bits-ext _ _ each
   where
     low : ℕ
     low = v % 2 ^ (n + 1)
+
     same : n + 1 - 0 * 32 ≡ n + 1
     same = omega arith
+
     each : (j : ℕ) → bit (kept n 0 v) j ≡ bit (low - low % 2) j
     each zero =
         kept-bit n 0 v 0 (omega arith)
@@ -66,7 +70,7 @@ kept-none n w v h = bits-ext (kept n w v) 0 (λ j. none j ∙ sym (bit-above 0 0
     none : (j : ℕ) → bit (kept n w v) j ≡ false
     none j = ⊎-elim
         (λ (t : So (ltb j 32)).
-            kept-bit n w v j (ltb-true j 32 t)
-            ∙ and-fails-right (bit v j) (so-not (isSource n (w * 32 + j)) (λ s. absurd (omega (arith, source-range n (w * 32 + j) s .1)))))
+        kept-bit n w v j (ltb-true j 32 t)
+        ∙ and-fails-right (bit v j) (so-not (isSource n (w * 32 + j)) (λ s. absurd (omega (arith, source-range n (w * 32 + j) s .1)))))
         (λ t. kept-above n w v j (ltb-false j 32 t))
         (dichotomy (ltb j 32))

@@ -4,3 +4,4 @@ pub mod Effects
 pub mod Sounds
 pub mod Answers
 pub mod Once
+pub mod Accepted

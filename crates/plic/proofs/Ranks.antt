@@ -40,6 +40,7 @@ module _ (n : ℕ) (stage prio enable : List ℕ) (c i : ℕ) (low : 1 ≤ i) (h
     where
       p : ℕ
       p = getD prio i 0
+
       spare : (b : Bool) (p : ℕ) → cond (b && leb 1 p) p 0 ≡ cond b p 0
       spare true zero = refl
       spare true (suc p) = cond-so (suc p) 0 (le-leb 1 (suc p) (omega arith))
@@ -85,13 +86,15 @@ module _ (f : ℕ → ℕ) (i won high rank : ℕ) (so-far : won ≡ best f i) (
 
   pub better : (won′ high′ : ℕ) → high < rank → won′ ≡ i → high′ ≡ rank → (won′ ≡ best f (i + 1)) × (high′ ≡ f won′)
   better won′ high′ h e g = (
-      e ∙ sym (best-more f i ∙ cond-so i (best f i) (same-test-is ∙ lt-ltb high rank h)),
-      g ∙ next ∙ ap f (sym e))
+    e ∙ sym (best-more f i ∙ cond-so i (best f i) (same-test-is ∙ lt-ltb high rank h)),
+    g ∙ next ∙ ap f (sym e),
+  )
 
   pub no-better : (won′ high′ : ℕ) → rank ≤ high → won′ ≡ won → high′ ≡ high → (won′ ≡ best f (i + 1)) × (high′ ≡ f won′)
   no-better won′ high′ h e g = (
-      e ∙ so-far ∙ sym (best-more f i ∙ cond-not i (best f i) (same-test-is ∙ le-ltb high rank h)),
-      g ∙ worth ∙ ap f (sym e))
+    e ∙ so-far ∙ sym (best-more f i ∙ cond-not i (best f i) (same-test-is ∙ le-ltb high rank h)),
+    g ∙ worth ∙ ap f (sym e),
+  )
 
 -- a winner is a pending source
 pub winner-in : (n : ℕ) (stage prio enable : List ℕ) (c w : ℕ) → w ≡ winnerIn n stage prio enable c → (w ≡ 0 → ⊥) →
@@ -100,8 +103,8 @@ unfolding winnerIn rankIn pendingForIn enabledIn winner rank eligible pendingFor
 winner-in n stage prio enable c w e ne =
     let s = stateOf n 0 0 [] 0 0 prio enable [] (requestsOf stage [] [] []) (countsOf [] []) (bucketsOf [] []) in
     let won = winner-is s c .some (λ z. ne (e ∙ z)) in
-    let range = source-range n (winner s c) (won .0 .source) in
-    (subst (λ (k : ℕ). 1 ≤ k) (sym e) (range .0),
-        subst (λ (k : ℕ). k ≤ n) (sym e) (range .1),
-        subst (λ (k : ℕ). getD stage k 0 ≡ 1) (sym e) (eqb-true _ 1 (won .0 .pending)))
-
+    let range = source-range n (winner s c) (won .0 .source) in (
+      subst (λ (k : ℕ). 1 ≤ k) (sym e) (range .0),
+      subst (λ (k : ℕ). k ≤ n) (sym e) (range .1),
+      subst (λ (k : ℕ). getD stage k 0 ≡ 1) (sym e) (eqb-true _ 1 (won .0 .pending)),
+    )

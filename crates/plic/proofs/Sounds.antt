@@ -57,11 +57,11 @@ module _ (s : State) (ready : Ready s) where
       (s .buckets .claims) (s .buckets .ticks)
   unfolding request sourceClaims sourceWaited bucketClaims bucketTicks
   bookable = record {
-      begun = λ i h _. ready .sound .source i h .start;
-      claimed = λ i h. omega (arith, claims-below i h);
-      waiting = λ i h pending. omega (arith, ready .sound .source i h .waits, age i pending, ready .sound .types .clock);
-      number = λ k h. omega (arith, bucket-below k h);
-      total = λ k h. omega (arith, ticks-below k h, ready .sound .types .clock)
+    begun = λ i h _. ready .sound .source i h .start;
+    claimed = λ i h. omega (arith, claims-below i h);
+    waiting = λ i h pending. omega (arith, ready .sound .source i h .waits, age i pending, ready .sound .types .clock);
+    number = λ k h. omega (arith, bucket-below k h);
+    total = λ k h. omega (arith, ticks-below k h, ready .sound .types .clock);
   }
     where
       age : (i : ℕ) → getD (s .requests .stage) i 0 ≡ 1 → openAge (s .clock) (request (s .requests) i) ≡ s .clock - getD (s .requests .start) i 0
@@ -91,7 +91,7 @@ module _ (n m b : ℕ) (kind : List ℕ) (clock steps : ℕ) (prio enable thresh
   unfolding now-state before claimOf withRequest withCounts setRequest request served wait
   somebody t = λ i. stateOf n m b kind clock steps prio enable threshold
       (requestsOf ((after .stages ∙ cond-not _ _ t) i) (sym (set-getD line w false) i) (sym (set-getD extra w 0) i)
-          ((after .starts ∙ cond-not _ _ t) i))
+      ((after .starts ∙ cond-not _ _ t) i))
       ((after .counted ∙ cond-not _ _ t) i) ((after .booked ∙ cond-not _ _ t) i)
 
   pub claim-made : stateOf n m b kind clock steps prio enable threshold (requestsOf stage′ line extra start′) counts′ buckets′
@@ -146,8 +146,8 @@ seven false w a c l e f h _ = absurd (not-so refl h)
 
 pub sound-parts : (s : State) → So (typed s) → So (withinLimits (s .shape .sources) (s .shape .contexts) (s .shape .bits)) →
     sound s ≡ (allTo (soundSourceAt s) 128 && (allTo (soundContext (s .shape) (s .settings)) 8 &&
-        (leb (boardClaims (s .counts)) (s .steps) && (eqb (boardClaims (s .counts)) (sumTo (bucketClaims (s .buckets)) 33)
-            && eqb (boardWaited (s .counts)) (sumTo (bucketTicks (s .buckets)) 33)))))
+    (leb (boardClaims (s .counts)) (s .steps) && (eqb (boardClaims (s .counts)) (sumTo (bucketClaims (s .buckets)) 33)
+    && eqb (boardWaited (s .counts)) (sumTo (bucketTicks (s .buckets)) 33)))))
 unfolding sound allOf
 sound-parts s t w =
     seven (typed s) (withinLimits (s .shape .sources) (s .shape .contexts) (s .shape .bits)) (allTo (soundSourceAt s) 128)

@@ -1,9 +1,13 @@
-// The calls that are steps, and the notification: each takes a state by value, checks it once, refuses in the order of the numbers,
-// and gives the answer with the state.
+// The calls that are steps, and the notification: each takes a state by value, checks it once, and gives the answer with the state.
 use crate::arbiter::is_notified;
 use crate::board::line_on;
 use crate::board::read_on;
 use crate::board::write_on;
+use crate::checks::Check;
+use crate::checks::access_check;
+use crate::checks::advance_check;
+use crate::checks::context_check;
+use crate::checks::line_check;
 use crate::sound::is_sound;
 use model::Answer;
 use model::Answered;
@@ -14,27 +18,14 @@ use model::Requests;
 use model::Settings;
 use model::State;
 ghost use mathlib.Core.Path.{_≡_};
-ghost use Rattle.model.specs.Refusals.{numberOf, answered};
-ghost use Rattle.model.specs.Calls.{line, advance, read, write, notification, respond};
-
-// The table's number of a refusal.
-pub fn number_of(why: Refusal) -> u32
-    ensures { λ r. ⌜ r ≡ numberOf why ⌝ }
-{
-    match why {
-        Refusal::BadShape => 1,
-        Refusal::NotSound => 2,
-        Refusal::NoStepLeft => 3,
-        Refusal::OffsetAbove => 4,
-        Refusal::OffsetUnaligned => 5,
-        Refusal::NoSuchSource => 6,
-        Refusal::NoSuchContext => 7,
-        Refusal::ClockPast => 8,
-        Refusal::PerMilleOutside => 9,
-        Refusal::NothingToDivide => 10,
-        Refusal::Unreadable => 11,
-    }
-}
+ghost use mathlib.Core.Bool.{So};
+ghost use Prim.Native.Nat.{_+_, _%_, _≤_, _<_};
+ghost use Rattle.model.specs.Board.{isSource, isContext};
+ghost use Rattle.model.specs.Life.{notified};
+ghost use Rattle.model.specs.Sound.{Sound};
+ghost use Rattle.model.specs.Refusals.{answered};
+ghost use Rattle.model.specs.Calls.{line, advance, read, write, notification, valuesOf, after, respond};
+ghost use Rattle.plic.specs.Arrays.{Ready};
 
 // A refusal, with the state as it was handed in.
 pub(crate) fn refused(state: State, why: Refusal) -> Answered
@@ -46,26 +37,17 @@ pub(crate) fn refused(state: State, why: Refusal) -> Answered
     }
 }
 
-// Sets a source's line to a level. Returns 0 and the state after it, or a refusal (2, 3, 6) and the state as it was.
-pub fn line(state: State, source: u32, level: bool) -> Answered
-    ensures { λ r. ⌜ answered r ≡ respond (line source level) state ⌝ }
+// The state after a line change that is not refused.
+fn line_made(state: State, source: u32, level: bool) -> Answered
+    requires { ⌜ Ready state × So (isSource (state .shape .sources) source) ⌝ }
+    ensures { λ r. ⌜ r ≡ record { answer = Answer.Value 0; state = after (line source level) state } ⌝ }
 {
-    if !is_sound(state) {
-        return refused(state, Refusal::NotSound);
-    }
-    if 4294967295 <= state.steps {
-        return refused(state, Refusal::NoStepLeft);
-    }
-    let n = state.shape.sources;
-    if !((1 <= source) & (source <= n)) {
-        return refused(state, Refusal::NoSuchSource);
-    }
     let mut stage = state.requests.stage;
     let mut level_of = state.requests.line;
     let mut extra = state.requests.extra;
     let mut start = state.requests.start;
     line_on(
-        n,
+        state.shape.sources,
         state.shape.contexts,
         state.shape.bits,
         state.clock,
@@ -100,19 +82,22 @@ pub fn line(state: State, source: u32, level: bool) -> Answered
     }
 }
 
-// Advances the clock. Returns 0 and the state after it, or a refusal (2, 3, 8) and the state as it was.
-pub fn advance(state: State, ticks: u32) -> Answered
-    ensures { λ r. ⌜ answered r ≡ respond (advance ticks) state ⌝ }
+// Sets a source's line to a level. Returns 0 and the state after it, or a refusal (2, 3, 6) and the state as it was.
+pub fn line(state: State, source: u32, level: bool) -> Answered
+    ensures { λ r. ⌜ answered r ≡ respond (line source level) state ⌝ }
 {
-    if !is_sound(state) {
-        return refused(state, Refusal::NotSound);
+    let check = line_check(is_sound(state), state.steps, state.shape.sources, source);
+    match check {
+        Check::Refused(why) => refused(state, why),
+        Check::Passed => line_made(state, source, level),
     }
-    if 4294967295 <= state.steps {
-        return refused(state, Refusal::NoStepLeft);
-    }
-    if 4294967295 - state.clock < ticks {
-        return refused(state, Refusal::ClockPast);
-    }
+}
+
+// The state after an advance that is not refused.
+fn advance_made(state: State, ticks: u32) -> Answered
+    requires { ⌜ (state .steps < 4294967295) × (state .clock + ticks ≤ 4294967295) ⌝ }
+    ensures { λ r. ⌜ r ≡ record { answer = Answer.Value 0; state = after (advance ticks) state } ⌝ }
+{
     let mut next = state;
     next.clock = state.clock + ticks;
     next.steps = state.steps + 1;
@@ -122,23 +107,22 @@ pub fn advance(state: State, ticks: u32) -> Answered
     }
 }
 
-// Reads a register; a read of a claim register claims. Returns the value and the state after it, or a refusal (2, 3, 4, 5) and the
-// state as it was.
-pub fn read(state: State, offset: u32) -> Answered
-    ensures { λ r. ⌜ answered r ≡ respond (read offset) state ⌝ }
+// Advances the clock. Returns 0 and the state after it, or a refusal (2, 3, 8) and the state as it was.
+pub fn advance(state: State, ticks: u32) -> Answered
+    ensures { λ r. ⌜ answered r ≡ respond (advance ticks) state ⌝ }
 {
-    if !is_sound(state) {
-        return refused(state, Refusal::NotSound);
+    let check = advance_check(is_sound(state), state.steps, state.clock, ticks);
+    match check {
+        Check::Refused(why) => refused(state, why),
+        Check::Passed => advance_made(state, ticks),
     }
-    if 4294967295 <= state.steps {
-        return refused(state, Refusal::NoStepLeft);
-    }
-    if 0x3FFFFFC < offset {
-        return refused(state, Refusal::OffsetAbove);
-    }
-    if offset % 4 != 0 {
-        return refused(state, Refusal::OffsetUnaligned);
-    }
+}
+
+// The value and the state after a read that is not refused.
+fn read_made(state: State, offset: u32) -> Answered
+    requires { ⌜ Ready state × (offset % 4 ≡ 0) ⌝ }
+    ensures { λ r. ⌜ answered r ≡ record { number = 0; values = valuesOf (read offset) state; state = after (read offset) state } ⌝ }
+{
     let mut stage = state.requests.stage;
     let mut start = state.requests.start;
     let mut claims = state.counts.claims;
@@ -192,23 +176,23 @@ pub fn read(state: State, offset: u32) -> Answered
     }
 }
 
-// Writes a register; a write to a claim register completes. Returns 0 and the state after it, or a refusal (2, 3, 4, 5) and the
+// Reads a register; a read of a claim register claims. Returns the value and the state after it, or a refusal (2, 3, 4, 5) and the
 // state as it was.
-pub fn write(state: State, offset: u32, value: u32) -> Answered
-    ensures { λ r. ⌜ answered r ≡ respond (write offset value) state ⌝ }
+pub fn read(state: State, offset: u32) -> Answered
+    ensures { λ r. ⌜ answered r ≡ respond (read offset) state ⌝ }
 {
-    if !is_sound(state) {
-        return refused(state, Refusal::NotSound);
+    let check = access_check(is_sound(state), state.steps, offset);
+    match check {
+        Check::Refused(why) => refused(state, why),
+        Check::Passed => read_made(state, offset),
     }
-    if 4294967295 <= state.steps {
-        return refused(state, Refusal::NoStepLeft);
-    }
-    if 0x3FFFFFC < offset {
-        return refused(state, Refusal::OffsetAbove);
-    }
-    if offset % 4 != 0 {
-        return refused(state, Refusal::OffsetUnaligned);
-    }
+}
+
+// The state after a write that is not refused.
+fn write_made(state: State, offset: u32, value: u32) -> Answered
+    requires { ⌜ Ready state × (offset % 4 ≡ 0) ⌝ }
+    ensures { λ r. ⌜ r ≡ record { answer = Answer.Value 0; state = after (write offset value) state } ⌝ }
+{
     let mut priority = state.settings.priority;
     let mut enable = state.settings.enable;
     let mut threshold = state.settings.threshold;
@@ -258,35 +242,55 @@ pub fn write(state: State, offset: u32, value: u32) -> Answered
     }
 }
 
-// Whether a context is notified. Returns 1 or 0, or a refusal (2, 7), and the state as it was.
-pub fn notification(state: State, context: u32) -> Answered
-    ensures { λ r. ⌜ answered r ≡ respond (notification context) state ⌝ }
+// Writes a register; a write to a claim register completes. Returns 0 and the state after it, or a refusal (2, 3, 4, 5) and the
+// state as it was.
+pub fn write(state: State, offset: u32, value: u32) -> Answered
+    ensures { λ r. ⌜ answered r ≡ respond (write offset value) state ⌝ }
 {
-    if !is_sound(state) {
-        return refused(state, Refusal::NotSound);
+    let check = access_check(is_sound(state), state.steps, offset);
+    match check {
+        Check::Refused(why) => refused(state, why),
+        Check::Passed => write_made(state, offset, value),
     }
-    if state.shape.contexts <= context {
-        return refused(state, Refusal::NoSuchContext);
-    }
+}
+
+// Whether a context of a sound state is notified.
+fn notified_in(state: State, context: u32) -> bool
+    requires { ⌜ Sound state × So (isContext (state .shape .contexts) context) ⌝ }
+    ensures { λ r. ⌜ r ≡ notified state context ⌝ }
+{
     let c = context as usize;
     let n = state.shape.sources as usize;
     let settings = state.settings;
     let threshold = settings.threshold[c];
-    if is_notified(
+    is_notified(
         &state.requests.stage,
         &state.settings.priority,
         &state.settings.enable,
         threshold,
         n,
         c,
-    ) {
-        return Answered {
-            answer: Answer::Value(1),
-            state: state,
-        };
-    }
-    Answered {
-        answer: Answer::Value(0),
-        state: state,
+    )
+}
+
+// Whether a context is notified. Returns 1 or 0, or a refusal (2, 7), and the state as it was.
+pub fn notification(state: State, context: u32) -> Answered
+    ensures { λ r. ⌜ answered r ≡ respond (notification context) state ⌝ }
+{
+    let check = context_check(is_sound(state), state.shape.contexts, context);
+    match check {
+        Check::Refused(why) => refused(state, why),
+        Check::Passed => {
+            if notified_in(state, context) {
+                return Answered {
+                    answer: Answer::Value(1),
+                    state: state,
+                };
+            }
+            Answered {
+                answer: Answer::Value(0),
+                state: state,
+            }
+        }
     }
 }

@@ -3,6 +3,7 @@
 mod arbiter;
 mod board;
 mod calls;
+mod checks;
 mod life;
 mod making;
 mod registers;
@@ -15,9 +16,9 @@ mod words;
 pub use calls::advance;
 pub use calls::line;
 pub use calls::notification;
-pub use calls::number_of;
 pub use calls::read;
 pub use calls::write;
+pub use checks::number_of;
 pub use making::make;
 pub use reports::by_claim;
 pub use reports::by_time;

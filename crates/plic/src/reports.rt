@@ -1,5 +1,7 @@
 // The reports: the mean's two numbers, the percentiles by claim and by time, and the totals. They leave the state as it was.
 use crate::calls::refused;
+use crate::checks::Check;
+use crate::checks::percentile_check;
 use crate::sound::is_sound;
 use crate::sound::open_age;
 use crate::sound::source_total;
@@ -82,21 +84,18 @@ fn widened(counts: &[u32; 33]) -> [u64; 33]
 pub fn by_claim(state: State, per_mille: u32) -> Answered
     ensures { λ r. ⌜ answered r ≡ respond (byClaim «per_mille») state ⌝ }
 {
-    if !is_sound(state) {
-        return refused(state, Refusal::NotSound);
-    }
-    if !((1 <= per_mille) & (per_mille <= 1000)) {
-        return refused(state, Refusal::PerMilleOutside);
-    }
     let claims = source_total(&state.counts.claims);
-    if claims == 0 {
-        return refused(state, Refusal::NothingToDivide);
-    }
-    let counts = widened(&state.buckets.claims);
-    let value = percentile_of(&counts, per_mille, claims);
-    Answered {
-        answer: Answer::Value(value),
-        state: state,
+    let check = percentile_check(is_sound(state), per_mille, claims);
+    match check {
+        Check::Refused(why) => refused(state, why),
+        Check::Passed => {
+            let counts = widened(&state.buckets.claims);
+            let value = percentile_of(&counts, per_mille, claims);
+            Answered {
+                answer: Answer::Value(value),
+                state: state,
+            }
+        }
     }
 }
 
@@ -104,20 +103,17 @@ pub fn by_claim(state: State, per_mille: u32) -> Answered
 pub fn by_time(state: State, per_mille: u32) -> Answered
     ensures { λ r. ⌜ answered r ≡ respond (byTime «per_mille») state ⌝ }
 {
-    if !is_sound(state) {
-        return refused(state, Refusal::NotSound);
-    }
-    if !((1 <= per_mille) & (per_mille <= 1000)) {
-        return refused(state, Refusal::PerMilleOutside);
-    }
     let waited = source_total(&state.counts.waited);
-    if waited == 0 {
-        return refused(state, Refusal::NothingToDivide);
-    }
-    let value = percentile_of(&state.buckets.ticks, per_mille, waited);
-    Answered {
-        answer: Answer::Value(value),
-        state: state,
+    let check = percentile_check(is_sound(state), per_mille, waited);
+    match check {
+        Check::Refused(why) => refused(state, why),
+        Check::Passed => {
+            let value = percentile_of(&state.buckets.ticks, per_mille, waited);
+            Answered {
+                answer: Answer::Value(value),
+                state: state,
+            }
+        }
     }
 }
 

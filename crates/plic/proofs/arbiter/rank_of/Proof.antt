@@ -22,7 +22,7 @@ returns : tie.Need-returns
 returns c = sym (cond-so _ _ (and-intro (eq-eqb _ _ (c .before .before .before .if1 .taken)) (sym (c .before .before .is-enabled .ensures) ∙ c .before .if2 .taken)))
 
 returns-2 : tie.Need-returns-2
-returns-2 c = 
+returns-2 c =
     let a = c .before .before .before .before .args in
     sym (cond-not _ _ (and-fails-right (eqb (getD (a .stage .now) (a .i) 0) 1) (sym (c .before .is-enabled .ensures) ∙ c .if2 .left)))
 

@@ -23,7 +23,6 @@ entry c =
     (requestsOf (a .stage .now) (a .line .now) (a .extra .now) (a .start .now)) (countsOf (a .claims .now) (a .waited .now))
     (bucketsOf (a .bucket-claims .now) (a .bucket-ticks .now))
 
-
 below : (c : tie.Start) → c .args .i < 128
 below c = omega (arith, source-range (c .args .n) (c .args .i) (c .pre .1) .1, c .pre .0 .sound .limits .sources .1)
 
@@ -35,10 +34,10 @@ set-line-requires c κs = below (c .before .before .before .before .before)
 
 returns : tie.Need-returns
 unfolding lineChange withRequest kindOf lineSet
-returns c = 
+returns c =
     let a = c .before .before .before .before .before .before .args in
     ap (λ q. stateOf (a .n) (a .m) (a .b) (a .kind .now) (a .clock) (a .steps) (a .priority .now) (a .enable .now) (a .threshold .now) q
-        (countsOf (a .claims .now) (a .waited .now)) (bucketsOf (a .bucket-claims .now) (a .bucket-ticks .now)))
+    (countsOf (a .claims .now) (a .waited .now)) (bucketsOf (a .bucket-claims .now) (a .bucket-ticks .now)))
     (c .set-line .ensures)
 
 pub line-on-spec : {M : Type 1} → statement M

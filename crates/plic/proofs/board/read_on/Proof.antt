@@ -75,9 +75,11 @@ enum-known-register-5 : tie.Need-enum-known-register-5
 enum-known-register-5 c = search needs
 
 claim-requires : tie.Need-claim-requires
-claim-requires c κs = 
-    (omega (arith, wide (c .before .before .before .before .before .before .before .before .before .before) .0), at-claim _ _ _ (wide (c .before .before .before .before .before .before .before .before .before .before)) (c .before .before .before .before .before .before .before .before .before .before .pre .1) _ (sym (c .before .before .before .before .before .before .before .before .before .register-at .ensures) ∙ c .before .before .before .before .before .before .before .register5 .given .1),
-        bookable (entry (c .before .before .before .before .before .before .before .before .before .before)) (c .before .before .before .before .before .before .before .before .before .before .pre .0))
+claim-requires c κs = (
+  omega (arith, wide (c .before .before .before .before .before .before .before .before .before .before) .0),
+  at-claim _ _ _ (wide (c .before .before .before .before .before .before .before .before .before .before)) (c .before .before .before .before .before .before .before .before .before .before .pre .1) _ (sym (c .before .before .before .before .before .before .before .before .before .register-at .ensures) ∙ c .before .before .before .before .before .before .before .register5 .given .1),
+  bookable (entry (c .before .before .before .before .before .before .before .before .before .before)) (c .before .before .before .before .before .before .before .before .before .before .pre .0),
+)
 
 cast-result : tie.Need-cast-result
 cast-result c = omega (arith, c .claim .ensures .1)
@@ -87,39 +89,40 @@ enum-told c = search needs
 
 returns : tie.Need-returns
 unfolding readOf afterRead priority
-returns c = 
+returns c =
     let at = sym (c .before .before .before .before .before .register-at .ensures) ∙ c .before .before .before .register .given .1 in
     (c .value-of .ensures ∙ sym (ap (readOf (entry (c .before .before .before .before .before .before))) at), sym (ap (afterRead (entry (c .before .before .before .before .before .before))) at))
 
 returns-2 : tie.Need-returns-2
 unfolding readOf afterRead pendingWord isPending request pendingWordIn
-returns-2 c = 
+returns-2 c =
     let at = sym (c .before .before .before .before .before .register-at .ensures) ∙ c .before .before .before .register2 .given .1 in
     (c .pending-word .ensures ∙ sym (ap (readOf (entry (c .before .before .before .before .before .before))) at), sym (ap (afterRead (entry (c .before .before .before .before .before .before))) at))
 
 returns-3 : tie.Need-returns-3
 unfolding readOf afterRead enableWord
-returns-3 c = 
+returns-3 c =
     let at = sym (c .before .before .before .before .register-at .ensures) ∙ c .before .before .register3 .given .1 in
     (sym (ap (readOf (entry (c .before .before .before .before .before))) at), sym (ap (afterRead (entry (c .before .before .before .before .before))) at))
 
 returns-4 : tie.Need-returns-4
 unfolding readOf afterRead threshold
-returns-4 c = 
+returns-4 c =
     let at = sym (c .before .before .before .before .before .register-at .ensures) ∙ c .before .before .before .register4 .given .1 in
     (c .value-of2 .ensures ∙ sym (ap (readOf (entry (c .before .before .before .before .before .before))) at), sym (ap (afterRead (entry (c .before .before .before .before .before .before))) at))
 
 returns-5 : tie.Need-returns-5
 unfolding readOf afterRead winner rank eligible pendingFor isPending request enabled enableWord priority winnerIn rankIn pendingForIn enabledIn
-returns-5 c = 
+returns-5 c =
     let at = sym (c .before .before .before .before .before .before .before .before .before .before .register-at .ensures) ∙ c .before .before .before .before .before .before .before .before .register5 .given .1 in
-    let s = entry (c .before .before .before .before .before .before .before .before .before .before .before) in
-    (c .claim .ensures .0 ∙ sym (ap (readOf s) at),
-        claim-made _ _ _ _ _ _ _ _ _ _ _ _ _ _ _ _ _ _ _ _ _ (c .claim .ensures .0) (c .claim .ensures .2) ∙ sym (ap (afterRead s) at))
+    let s = entry (c .before .before .before .before .before .before .before .before .before .before .before) in (
+      c .claim .ensures .0 ∙ sym (ap (readOf s) at),
+      claim-made _ _ _ _ _ _ _ _ _ _ _ _ _ _ _ _ _ _ _ _ _ (c .claim .ensures .0) (c .claim .ensures .2) ∙ sym (ap (afterRead s) at),
+    )
 
 returns-6 : tie.Need-returns-6
 unfolding readOf afterRead
-returns-6 c = 
+returns-6 c =
     let at = sym (c .before .before .register-at .ensures) ∙ c .enum-told .given .1 in
     (sym (ap (readOf (entry (c .before .before .before))) at), sym (ap (afterRead (entry (c .before .before .before))) at))
 

@@ -82,51 +82,51 @@ enum-told-2 c = search needs
 
 returns : tie.Need-returns
 unfolding afterWrite withPriority withSettings
-returns c = 
+returns c =
     let a = c .before .before .before .before .before .args in
     let at = sym (c .before .before .before .before .register-at .ensures) ∙ c .before .before .register .given .1 in
     ap (λ (x : ℕ). stateOf (a .n) (a .m) (a .b) (a .kind .now) (a .clock) (a .steps) (set (a .priority .now) (c .before .before .register .given .0 .0) x)
-        (a .enable .now) (a .threshold .now) (requestsOf (a .stage .now) (a .line .now) (a .extra .now) (a .start .now))
-        (countsOf (a .claims .now) (a .waited .now)) (bucketsOf (a .bucket-claims .now) (a .bucket-ticks .now)))
+    (a .enable .now) (a .threshold .now) (requestsOf (a .stage .now) (a .line .now) (a .extra .now) (a .start .now))
+    (countsOf (a .claims .now) (a .waited .now)) (bucketsOf (a .bucket-claims .now) (a .bucket-ticks .now)))
     (c .reduced .ensures)
     ∙ sym (ap (λ r. afterWrite (entry (c .before .before .before .before .before)) r (a .v)) at)
 
 returns-2 : tie.Need-returns-2
 unfolding afterWrite withEnable withSettings
-returns-2 c = 
+returns-2 c =
     let a = c .before .before .before .before .before .args in
     let at = sym (c .before .before .before .before .register-at .ensures) ∙ c .before .before .register2 .given .1 in
     let place = c .before .before .register2 .given .0 .0 * 4 + c .before .before .register2 .given .0 .1 .0 in
     ap (λ (x : ℕ). stateOf (a .n) (a .m) (a .b) (a .kind .now) (a .clock) (a .steps) (a .priority .now)
-        (set (a .enable .now) place x) (a .threshold .now) (requestsOf (a .stage .now) (a .line .now) (a .extra .now) (a .start .now))
-        (countsOf (a .claims .now) (a .waited .now)) (bucketsOf (a .bucket-claims .now) (a .bucket-ticks .now)))
+    (set (a .enable .now) place x) (a .threshold .now) (requestsOf (a .stage .now) (a .line .now) (a .extra .now) (a .start .now))
+    (countsOf (a .claims .now) (a .waited .now)) (bucketsOf (a .bucket-claims .now) (a .bucket-ticks .now)))
     (c .kept-bits .ensures)
     ∙ sym (ap (λ r. afterWrite (entry (c .before .before .before .before .before)) r (a .v)) at)
 
 returns-3 : tie.Need-returns-3
 unfolding afterWrite withThreshold withSettings
-returns-3 c = 
+returns-3 c =
     let a = c .before .before .before .before .before .args in
     let at = sym (c .before .before .before .before .register-at .ensures) ∙ c .before .before .register3 .given .1 in
     ap (λ (x : ℕ). stateOf (a .n) (a .m) (a .b) (a .kind .now) (a .clock) (a .steps) (a .priority .now) (a .enable .now)
-        (set (a .threshold .now) (c .before .before .register3 .given .0 .0) x)
-        (requestsOf (a .stage .now) (a .line .now) (a .extra .now) (a .start .now))
-        (countsOf (a .claims .now) (a .waited .now)) (bucketsOf (a .bucket-claims .now) (a .bucket-ticks .now)))
+    (set (a .threshold .now) (c .before .before .register3 .given .0 .0) x)
+    (requestsOf (a .stage .now) (a .line .now) (a .extra .now) (a .start .now))
+    (countsOf (a .claims .now) (a .waited .now)) (bucketsOf (a .bucket-claims .now) (a .bucket-ticks .now)))
     (c .reduced2 .ensures)
     ∙ sym (ap (λ r. afterWrite (entry (c .before .before .before .before .before)) r (a .v)) at)
 
 returns-4 : tie.Need-returns-4
 unfolding afterWrite
-returns-4 c = 
+returns-4 c =
     let a = c .before .before .before .before .before .before .before .before .before .args in
     let at = sym (c .before .before .before .before .before .before .before .before .register-at .ensures) ∙ c .before .before .before .before .before .before .register4 .given .1 in
     ap (λ q. stateOf (a .n) (a .m) (a .b) (a .kind .now) (a .clock) (a .steps) (a .priority .now) (a .enable .now) (a .threshold .now) q
-        (countsOf (a .claims .now) (a .waited .now)) (bucketsOf (a .bucket-claims .now) (a .bucket-ticks .now)))
+    (countsOf (a .claims .now) (a .waited .now)) (bucketsOf (a .bucket-claims .now) (a .bucket-ticks .now)))
     (c .complete-by .ensures)
     ∙ complete-made (a .n) (a .m) (a .b) (a .kind .now) (a .clock) (a .steps) (a .priority .now) (a .enable .now) (a .threshold .now)
-        (requestsOf (a .stage .now) (a .line .now) (a .extra .now) (a .start .now))
-        (countsOf (a .claims .now) (a .waited .now)) (bucketsOf (a .bucket-claims .now) (a .bucket-ticks .now))
-        (c .before .before .before .before .before .before .register4 .given .0 .0) (a .v)
+    (requestsOf (a .stage .now) (a .line .now) (a .extra .now) (a .start .now))
+    (countsOf (a .claims .now) (a .waited .now)) (bucketsOf (a .bucket-claims .now) (a .bucket-ticks .now))
+    (c .before .before .before .before .before .before .register4 .given .0 .0) (a .v)
     ∙ sym (ap (λ r. afterWrite (entry (c .before .before .before .before .before .before .before .before .before)) r (a .v)) at)
 
 returns-5 : tie.Need-returns-5

@@ -1,91 +1,58 @@
--- `calls::line` meets its contract: each refusal in its turn, and then the step on the sound state.
+-- `calls::line` meets its contract: the first refusal that the check finds, or the step.
 -- Assumes nothing.
 use borrow.Author.Needs.{needs}
-use mathlib.Core.Path.{_≡_, _∙_, refl, sym, ap}
-use Prim.Native.Nat.{ℕ, _+_, _≤_, _<_}
-use native.Mathlib.Omega.{arith}
-use mathlib.Core.Bool.{So}
+use mathlib.Core.Path.{_≡_, _∙_, refl, sym, ap, ap₂}
+use Prim.Native.Nat.{ℕ, _+_, _*_, _≤_, _<_}
+use mathlib.Core.Bool.{Bool}
 use mathlib.Core.List.{[], _∷_}
-use borrow.Author.Tests.{not-true, not-false}
-use Rattle.model.specs.declared.State.{State}
-use Rattle.model.specs.declared.Refusal.the-variants.{NotSound, NoStepLeft, OffsetAbove, OffsetUnaligned, NoSuchSource, NoSuchContext, ClockPast}
-use Rattle.model.specs.Board.{isSource, isContext, withSteps, withClock}
-use Rattle.model.specs.Refusals.{Outcome, answerNumber, answerValues, answered}
-use Rattle.model.specs.Calls.{line, isStep, grounds, valuesOf, effect, after}
-use Rattle.model.proofs.Sound.{sound-facts}
+use Rattle.model.specs.Refusals.{answerNumber, answerValues, answered, firstOf}
+use Rattle.model.specs.Calls.{line, notSound, noStepLeft, offsetAbove, offsetUnaligned, noSuchSource, noSuchContext, clockPast, grounds, valuesOf}
 use Rattle.model.proofs.Calls.{refused-as, accepted-as}
-use Rattle.plic.specs.Arrays.{Ready}
-use Rattle.plic.proofs.Answers.{unsound, passes, no-step, a-step, no-source, a-source, none}
+use Rattle.plic.specs.Checks.{checkNumber, lineGrounds}
+use Rattle.plic.proofs.Accepted.{line-ready}
 use Rattle.plic.proofs.calls.line.Statement.{statement}
 use Rattle.plic.proofs.calls.line.Tie as tie
-
--- the state has passed the checks
-ready : (c : tie.Else3) → Ready (c .before .before .before .before .args .t1)
-ready c = record {
-  sound = sound-facts _ (sym (c .before .before .before .is-sound .ensures) ∙ not-false _ (c .before .before .if1 .left));
-  room = c .before .if2 .left;
-}
-
-source : (c : tie.Else3) → So (isSource (c .before .before .before .before .args .t1 .shape .sources) (c .before .before .before .before .args .source))
-unfolding isSource
-source c = not-false _ (c .if3 .left)
 
 is-sound-requires : tie.Need-is-sound-requires
 is-sound-requires c κs = search needs
 
+line-check-requires : tie.Need-line-check-requires
+line-check-requires c κs = search needs
+
+enum-known-check : tie.Need-enum-known-check
+enum-known-check c = search needs
+
 refused-requires : tie.Need-refused-requires
 refused-requires c κs = search needs
 
-returns : tie.Need-returns
-unfolding answered answerNumber answerValues valuesOf grounds
-returns c = 
-    let s = c .before .before .before .args .t1 in
-    ap answered (c .refused .ensures) ∙ sym (refused-as (line (c .before .before .before .args .source) (c .before .before .before .args .level)) s NotSound (unsound s _ (sym (c .before .before .is-sound .ensures) ∙ not-true _ (c .before .if1 .taken))))
+enum-told : tie.Need-enum-told
+enum-told c = search needs
 
-refused-requires-2 : tie.Need-refused-requires-2
-refused-requires-2 c κs = search needs
+line-made-requires : tie.Need-line-made-requires
+unfolding grounds notSound noStepLeft offsetAbove offsetUnaligned noSuchSource noSuchContext clockPast
+line-made-requires c κs = line-ready (c .before .before .before .before .args .state) (c .before .before .before .before .args .source) (c .before .before .before .before .args .level) (ap (λ (t : Bool). firstOf (lineGrounds t (c .before .before .before .before .args .state .steps) (c .before .before .before .before .args .state .shape .sources) (c .before .before .before .before .args .source))) (sym (c .before .before .before .is-sound .ensures)) ∙ sym (c .before .before .line-check .ensures) ∙ ap checkNumber (c .enum-told .given .1))
+
+returns : tie.Need-returns
+unfolding answered answerNumber answerValues valuesOf grounds notSound noStepLeft offsetAbove offsetUnaligned noSuchSource noSuchContext clockPast
+returns c =
+    ap answered (c .refused .ensures)
+    ∙ sym (refused-as (line (c .before .before .before .before .before .before .args .source) (c .before .before .before .before .before .before .args .level)) (c .before .before .before .before .before .before .args .state) (c .before .before .check .given .0 .0) (ap (λ (t : Bool). firstOf (lineGrounds t (c .before .before .before .before .before .before .args .state .steps) (c .before .before .before .before .before .before .args .state .shape .sources) (c .before .before .before .before .before .before .args .source))) (sym (c .before .before .before .before .before .is-sound .ensures)) ∙ sym (c .before .before .before .before .line-check .ensures) ∙ ap checkNumber (c .before .before .check .given .1)))
 
 returns-2 : tie.Need-returns-2
-unfolding answered answerNumber answerValues valuesOf grounds
-returns-2 c = 
-    let s = c .before .before .before .before .args .t1 in
-    ap answered (c .refused2 .ensures) ∙ sym (refused-as (line (c .before .before .before .before .args .source) (c .before .before .before .before .args .level)) s NoStepLeft (passes s _ (sym (c .before .before .before .is-sound .ensures) ∙ not-false _ (c .before .before .if1 .left)) ∙ no-step s _ (c .before .if2 .taken)))
-
-refused-requires-3 : tie.Need-refused-requires-3
-refused-requires-3 c κs = search needs
-
-returns-3 : tie.Need-returns-3
-unfolding answered answerNumber answerValues valuesOf grounds isSource
-returns-3 c = 
-    let s = c .before .before .before .before .before .args .t1 in
-    ap answered (c .refused3 .ensures)
-    ∙ sym (refused-as (line (c .before .before .before .before .before .args .source) (c .before .before .before .before .before .args .level)) s NoSuchSource (passes s _ (sym (c .before .before .before .before .is-sound .ensures) ∙ not-false _ (c .before .before .before .if1 .left)) ∙ a-step s _ (c .before .before .if2 .left) ∙ no-source s _ _ (not-true _ (c .before .if3 .taken))))
-
-line-on-requires : tie.Need-line-on-requires
-line-on-requires c κs = (ready (c .before .before .before .before .before .before .before .before .before .before .before .before .before .before .before .before .before), source (c .before .before .before .before .before .before .before .before .before .before .before .before .before .before .before .before .before))
-
-add-next : tie.Need-add-next
-add-next c = search needs
-
-returns-4 : tie.Need-returns-4
-unfolding answered answerNumber answerValues valuesOf grounds after effect isStep withSteps
-returns-4 c = 
-    let s = c .before .before .before .before .before .before .before .before .before .before .before .before .before .before .before .before .before .before .before .before .before .before .args .t1 in
-    let at = c .before .before .before .before .before .before .before .before .before .before .before .before .before .before .before .before .before .before in
-    ap (λ (k : State). record { number = 0; values = 0 ∷ []; state = withSteps k (s .steps + 1) }) (c .line-on .ensures)
-    ∙ sym (accepted-as (line (c .before .before .before .before .before .before .before .before .before .before .before .before .before .before .before .before .before .before .before .before .before .before .args .source) (c .before .before .before .before .before .before .before .before .before .before .before .before .before .before .before .before .before .before .before .before .before .before .args .level)) s (passes s _ (sym (c .before .before .before .before .before .before .before .before .before .before .before .before .before .before .before .before .before .before .before .before .before .is-sound .ensures) ∙ not-false _ (c .before .before .before .before .before .before .before .before .before .before .before .before .before .before .before .before .before .before .before .before .if1 .left)) ∙ a-step s _ (at .before .if2 .left) ∙ a-source s _ _ (source at) ∙ none))
+unfolding answered answerNumber answerValues valuesOf grounds notSound noStepLeft offsetAbove offsetUnaligned noSuchSource noSuchContext clockPast
+returns-2 c =
+    ap answered (c .line-made .ensures)
+    ∙ sym (accepted-as (line (c .before .before .before .before .before .args .source) (c .before .before .before .before .before .args .level)) (c .before .before .before .before .before .args .state) (ap (λ (t : Bool). firstOf (lineGrounds t (c .before .before .before .before .before .args .state .steps) (c .before .before .before .before .before .args .state .shape .sources) (c .before .before .before .before .before .args .source))) (sym (c .before .before .before .before .is-sound .ensures)) ∙ sym (c .before .before .before .line-check .ensures) ∙ ap checkNumber (c .before .enum-told .given .1)))
 
 pub line-spec : {M : Type 1} → statement M
 line-spec =
     tie.close
     (tie.spec
     is-sound-requires
+    line-check-requires
+    enum-known-check
     refused-requires
+    enum-told
+    line-made-requires
     returns
-    refused-requires-2
-    returns-2
-    refused-requires-3
-    returns-3
-    line-on-requires
-    add-next
-    returns-4)
+    returns-2)

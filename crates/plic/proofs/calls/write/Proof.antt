@@ -1,97 +1,58 @@
--- `calls::write` meets its contract: each refusal in its turn, and then the step on the sound state.
+-- `calls::write` meets its contract: the first refusal that the check finds, or the step.
 -- Assumes nothing.
 use borrow.Author.Needs.{needs}
-use mathlib.Core.Path.{_≡_, _∙_, refl, sym, ap}
-use Prim.Native.Nat.{ℕ, _+_, _≤_, _<_}
-use native.Mathlib.Omega.{arith}
-use mathlib.Core.Bool.{So}
+use mathlib.Core.Path.{_≡_, _∙_, refl, sym, ap, ap₂}
+use Prim.Native.Nat.{ℕ, _+_, _*_, _≤_, _<_}
+use mathlib.Core.Bool.{Bool}
 use mathlib.Core.List.{[], _∷_}
-use borrow.Author.Tests.{not-true, not-false}
-use Rattle.model.specs.declared.State.{State}
-use Rattle.model.specs.declared.Refusal.the-variants.{NotSound, NoStepLeft, OffsetAbove, OffsetUnaligned, NoSuchSource, NoSuchContext, ClockPast}
-use Rattle.model.specs.Board.{isSource, isContext, withSteps, withClock}
-use Rattle.model.specs.Refusals.{Outcome, answerNumber, answerValues, answered}
-use Rattle.model.specs.Calls.{write, isStep, grounds, valuesOf, effect, after}
-use Rattle.model.proofs.Sound.{sound-facts}
+use Rattle.model.specs.Refusals.{answerNumber, answerValues, answered, firstOf}
+use Rattle.model.specs.Calls.{write, notSound, noStepLeft, offsetAbove, offsetUnaligned, noSuchSource, noSuchContext, clockPast, grounds, valuesOf}
 use Rattle.model.proofs.Calls.{refused-as, accepted-as}
-use Rattle.plic.specs.Arrays.{Ready}
-use Rattle.plic.proofs.Answers.{unsound, passes, no-step, a-step, above, not-above, unaligned, aligned, none}
+use Rattle.plic.specs.Checks.{checkNumber, accessGrounds}
+use Rattle.plic.proofs.Accepted.{write-ready}
 use Rattle.plic.proofs.calls.write.Statement.{statement}
 use Rattle.plic.proofs.calls.write.Tie as tie
-
--- the state has passed the checks
-ready : (c : tie.Else4) → Ready (c .before .before .before .before .before .args .t1)
-ready c = record {
-  sound = sound-facts _ (sym (c .before .before .before .before .is-sound .ensures) ∙ not-false _ (c .before .before .before .if1 .left));
-  room = c .before .before .if2 .left;
-}
 
 is-sound-requires : tie.Need-is-sound-requires
 is-sound-requires c κs = search needs
 
+access-check-requires : tie.Need-access-check-requires
+access-check-requires c κs = search needs
+
+enum-known-check : tie.Need-enum-known-check
+enum-known-check c = search needs
+
 refused-requires : tie.Need-refused-requires
 refused-requires c κs = search needs
 
-returns : tie.Need-returns
-unfolding answered answerNumber answerValues valuesOf grounds
-returns c = 
-    let s = c .before .before .before .args .t1 in
-    ap answered (c .refused .ensures) ∙ sym (refused-as (write (c .before .before .before .args .offset) (c .before .before .before .args .value)) s NotSound (unsound s _ (sym (c .before .before .is-sound .ensures) ∙ not-true _ (c .before .if1 .taken))))
+enum-told : tie.Need-enum-told
+enum-told c = search needs
 
-refused-requires-2 : tie.Need-refused-requires-2
-refused-requires-2 c κs = search needs
+write-made-requires : tie.Need-write-made-requires
+unfolding grounds notSound noStepLeft offsetAbove offsetUnaligned noSuchSource noSuchContext clockPast
+write-made-requires c κs = write-ready (c .before .before .before .before .args .state) (c .before .before .before .before .args .offset) (c .before .before .before .before .args .value) (ap (λ (t : Bool). firstOf (accessGrounds t (c .before .before .before .before .args .state .steps) (c .before .before .before .before .args .offset))) (sym (c .before .before .before .is-sound .ensures)) ∙ sym (c .before .before .access-check .ensures) ∙ ap checkNumber (c .enum-told .given .1))
+
+returns : tie.Need-returns
+unfolding answered answerNumber answerValues valuesOf grounds notSound noStepLeft offsetAbove offsetUnaligned noSuchSource noSuchContext clockPast
+returns c =
+    ap answered (c .refused .ensures)
+    ∙ sym (refused-as (write (c .before .before .before .before .before .before .args .offset) (c .before .before .before .before .before .before .args .value)) (c .before .before .before .before .before .before .args .state) (c .before .before .check .given .0 .0) (ap (λ (t : Bool). firstOf (accessGrounds t (c .before .before .before .before .before .before .args .state .steps) (c .before .before .before .before .before .before .args .offset))) (sym (c .before .before .before .before .before .is-sound .ensures)) ∙ sym (c .before .before .before .before .access-check .ensures) ∙ ap checkNumber (c .before .before .check .given .1)))
 
 returns-2 : tie.Need-returns-2
-unfolding answered answerNumber answerValues valuesOf grounds
-returns-2 c = 
-    let s = c .before .before .before .before .args .t1 in
-    ap answered (c .refused2 .ensures) ∙ sym (refused-as (write (c .before .before .before .before .args .offset) (c .before .before .before .before .args .value)) s NoStepLeft (passes s _ (sym (c .before .before .before .is-sound .ensures) ∙ not-false _ (c .before .before .if1 .left)) ∙ no-step s _ (c .before .if2 .taken)))
-
-refused-requires-3 : tie.Need-refused-requires-3
-refused-requires-3 c κs = search needs
-
-returns-3 : tie.Need-returns-3
-unfolding answered answerNumber answerValues valuesOf grounds
-returns-3 c = 
-    let s = c .before .before .before .before .before .args .t1 in
-    ap answered (c .refused3 .ensures) ∙ sym (refused-as (write (c .before .before .before .before .before .args .offset) (c .before .before .before .before .before .args .value)) s OffsetAbove (passes s _ (sym (c .before .before .before .before .is-sound .ensures) ∙ not-false _ (c .before .before .before .if1 .left)) ∙ a-step s _ (c .before .before .if2 .left) ∙ above _ _ (c .before .if3 .taken)))
-
-refused-requires-4 : tie.Need-refused-requires-4
-refused-requires-4 c κs = search needs
-
-returns-4 : tie.Need-returns-4
-unfolding answered answerNumber answerValues valuesOf grounds
-returns-4 c = 
-    let s = c .before .before .before .before .before .before .args .t1 in
-    ap answered (c .refused4 .ensures) ∙ sym (refused-as (write (c .before .before .before .before .before .before .args .offset) (c .before .before .before .before .before .before .args .value)) s OffsetUnaligned (passes s _ (sym (c .before .before .before .before .before .is-sound .ensures) ∙ not-false _ (c .before .before .before .before .if1 .left)) ∙ a-step s _ (c .before .before .before .if2 .left) ∙ not-above _ _ (c .before .before .if3 .left) ∙ unaligned _ _ (c .before .if4 .taken)))
-
-write-on-requires : tie.Need-write-on-requires
-write-on-requires c κs = (ready (c .before .before .before .before .before .before .before .before .before .before .before .before .before .before .before .before .before .before .before), c .before .before .before .before .before .before .before .before .before .before .before .before .before .before .before .before .before .before .before .if4 .left)
-
-add-next : tie.Need-add-next
-add-next c = search needs
-
-returns-5 : tie.Need-returns-5
-unfolding answered answerNumber answerValues valuesOf grounds after effect isStep withSteps
-returns-5 c = 
-    let s = c .before .before .before .before .before .before .before .before .before .before .before .before .before .before .before .before .before .before .before .before .before .before .before .before .before .before .args .t1 in
-    let at = c .before .before .before .before .before .before .before .before .before .before .before .before .before .before .before .before .before .before .before .before .before in
-    ap (λ (k : State). record { number = 0; values = 0 ∷ []; state = withSteps k (s .steps + 1) }) (c .before .write-on .ensures)
-    ∙ sym (accepted-as (write (c .before .before .before .before .before .before .before .before .before .before .before .before .before .before .before .before .before .before .before .before .before .before .before .before .before .before .args .offset) (c .before .before .before .before .before .before .before .before .before .before .before .before .before .before .before .before .before .before .before .before .before .before .before .before .before .before .args .value)) s (passes s _ (sym (c .before .before .before .before .before .before .before .before .before .before .before .before .before .before .before .before .before .before .before .before .before .before .before .before .before .is-sound .ensures) ∙ not-false _ (c .before .before .before .before .before .before .before .before .before .before .before .before .before .before .before .before .before .before .before .before .before .before .before .before .if1 .left)) ∙ a-step s _ (at .before .before .if2 .left) ∙ not-above _ _ (at .before .if3 .left) ∙ aligned _ _ (at .if4 .left) ∙ none))
+unfolding answered answerNumber answerValues valuesOf grounds notSound noStepLeft offsetAbove offsetUnaligned noSuchSource noSuchContext clockPast
+returns-2 c =
+    ap answered (c .write-made .ensures)
+    ∙ sym (accepted-as (write (c .before .before .before .before .before .args .offset) (c .before .before .before .before .before .args .value)) (c .before .before .before .before .before .args .state) (ap (λ (t : Bool). firstOf (accessGrounds t (c .before .before .before .before .before .args .state .steps) (c .before .before .before .before .before .args .offset))) (sym (c .before .before .before .before .is-sound .ensures)) ∙ sym (c .before .before .before .access-check .ensures) ∙ ap checkNumber (c .before .enum-told .given .1)))
 
 pub write-spec : {M : Type 1} → statement M
 write-spec =
     tie.close
     (tie.spec
     is-sound-requires
+    access-check-requires
+    enum-known-check
     refused-requires
+    enum-told
+    write-made-requires
     returns
-    refused-requires-2
-    returns-2
-    refused-requires-3
-    returns-3
-    refused-requires-4
-    returns-4
-    write-on-requires
-    add-next
-    returns-5)
+    returns-2)

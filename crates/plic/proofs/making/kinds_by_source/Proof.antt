@@ -20,9 +20,9 @@ more kinds i h most =
     let left : 127 - i ≡ suc (127 - (i + 1)) = omega arith in
     ap₂ (λ (k : ℕ) (r : ℕ). set (0 ∷ (take i kinds ++ replicate r 0)) k v) (add-one i) left
     ∙ ap (λ (l : List ℕ). 0 ∷ l)
-        (set-at (take i kinds) 0 (replicate (127 - (i + 1)) 0) v i (length-take-le i kinds (omega arith))
-        ∙ sym (ap (λ (l : List ℕ). l ++ replicate (127 - (i + 1)) 0) (ap (λ (k : ℕ). take k kinds) (add-one i) ∙ take-suc kinds i 0 h)
-            ∙ append-assoc (take i kinds) (v ∷ []) (replicate (127 - (i + 1)) 0)))
+    (set-at (take i kinds) 0 (replicate (127 - (i + 1)) 0) v i (length-take-le i kinds (omega arith))
+    ∙ sym (ap (λ (l : List ℕ). l ++ replicate (127 - (i + 1)) 0) (ap (λ (k : ℕ). take k kinds) (add-one i) ∙ take-suc kinds i 0 h)
+    ∙ append-assoc (take i kinds) (v ∷ []) (replicate (127 - (i + 1)) 0)))
   where
     v : ℕ
     v = getD kinds i 0
@@ -52,13 +52,13 @@ loop-less : tie.Need-loop-less Inv-loop μ-loop
 loop-less c = omega arith
 
 loop-again : tie.Need-loop-again Inv-loop μ-loop
-loop-again c = 
+loop-again c =
     let l = c .before .before .loop in
     let kinds = c .before .before .before .args .kinds .now in
     (omega arith, ap (λ x. set x (l .i + 1) (getD kinds (l .i) 0)) (l .inv .1) ∙ more kinds (l .i) (c .before .loop-test .taken) (c .before .before .before .pre))
 
 returns : tie.Need-returns Inv-loop μ-loop
-returns c = 
+returns c =
     let kinds = c .before .before .args .kinds .now in
     let last : c .before .loop .i ≡ length kinds = omega arith in
     c .before .loop .inv .1 ∙ ap (filled kinds) last ∙ ap (λ l. 0 ∷ (l ++ replicate (127 - length kinds) 0)) (take-length kinds)

@@ -39,7 +39,7 @@ loop-again : tie.Need-loop-again Inv-loop μ-loop
 loop-again c = (omega arith, all-more _ (c .before .before .before .loop .i) ∙ ap₂ _&&_ (c .before .before .before .loop .inv .1) (le-leb _ _ (c .if1 .left)))
 
 returns-2 : tie.Need-returns-2 Inv-loop μ-loop
-returns-2 c = 
+returns-2 c =
     let last : c .before .loop .i ≡ length (c .before .before .args .kinds .now) = omega arith in
     sym (ap (allTo _) (sym last) ∙ c .before .loop .inv .1)
 

@@ -29,7 +29,7 @@ refused-requires c κs = search needs
 
 returns : tie.Need-returns
 unfolding answered answerNumber answerValues make kindsFor
-returns c = 
+returns c =
     let a = c .before .before .before .before .before .args in
     let un = unmade-when (a .n) (a .m) (a .b) (a .kinds .now) (and-fails-left _ (sym (c .before .before .before .within-limits .ensures) ∙ not-true _ (c .before .before .if1 .taken))) in
     ap answered (c .refused .ensures) ∙ (λ i. record { number = sym (un .0) i; values = 0 ∷ []; state = (c .before .zero .ensures ∙ sym (un .1)) i })
@@ -42,7 +42,7 @@ refused-requires-2 c κs = search needs
 
 returns-2 : tie.Need-returns-2
 unfolding answered answerNumber answerValues make kindsFor
-returns-2 c = 
+returns-2 c =
     let a = c .before .before .before .before .before .before .args in
     let un = unmade-when (a .n) (a .m) (a .b) (a .kinds .now) (and-fails-right (withinLimits (a .n) (a .m) (a .b)) (and-fails-left _ (ne-eqb _ _ (c .before .before .if2 .taken)))) in
     ap answered (c .refused2 .ensures) ∙ (λ i. record { number = sym (un .0) i; values = 0 ∷ []; state = (c .before .zero2 .ensures ∙ sym (un .1)) i })
@@ -58,13 +58,13 @@ refused-requires-3 c κs = search needs
 
 returns-3 : tie.Need-returns-3
 unfolding answered answerNumber answerValues make kindsFor
-returns-3 c = 
+returns-3 c =
     let a = c .before .before .before .before .before .before .before .before .args in
     let un = unmade-when (a .n) (a .m) (a .b) (a .kinds .now) (and-fails-right (withinLimits (a .n) (a .m) (a .b)) (and-fails-right (eqb (length (a .kinds .now)) (a .n)) (sym (c .before .before .before .kinds-known .ensures) ∙ not-true _ (c .before .before .if3 .taken)))) in
     ap answered (c .refused3 .ensures) ∙ (λ i. record { number = sym (un .0) i; values = 0 ∷ []; state = (c .before .zero3 .ensures ∙ sym (un .1)) i })
 
 kinds-by-source-requires : tie.Need-kinds-by-source-requires
-kinds-by-source-requires c κs = 
+kinds-by-source-requires c κs =
     let a = c .before .before .before .before .before .before .args in
     omega (arith, limits-facts (a .n) (a .m) (a .b) (sym (c .before .before .before .before .within-limits .ensures) ∙ not-false _ (c .before .before .before .if1 .left)) .sources .1, c .before .before .if2 .left)
 
@@ -73,11 +73,11 @@ fresh-requires c κs = search needs
 
 returns-4 : tie.Need-returns-4
 unfolding answered answerNumber answerValues make kindsFor shapeOf
-returns-4 c = 
+returns-4 c =
     let a = c .before .before .before .before .before .before .before .before .args in
     let made = made-when (a .n) (a .m) (a .b) (a .kinds .now)
-        (and-intro (sym (c .before .before .before .before .before .before .within-limits .ensures) ∙ not-false _ (c .before .before .before .before .before .if1 .left))
-            (and-intro (eq-eqb _ _ (c .before .before .before .before .if2 .left)) (sym (c .before .before .before .kinds-known .ensures) ∙ not-false _ (c .before .before .if3 .left)))) in
+    (and-intro (sym (c .before .before .before .before .before .before .within-limits .ensures) ∙ not-false _ (c .before .before .before .before .before .if1 .left))
+    (and-intro (eq-eqb _ _ (c .before .before .before .before .if2 .left)) (sym (c .before .before .before .kinds-known .ensures) ∙ not-false _ (c .before .before .if3 .left)))) in
     let state = c .fresh .ensures ∙ ap (λ k. freshIn (record { sources = a .n; contexts = a .m; bits = a .b; kind = k })) (c .before .kinds-by-source .ensures) in
     λ i. record { number = sym (made .0) i; values = 0 ∷ []; state = (state ∙ sym (made .1)) i }
 

@@ -20,7 +20,7 @@ use Rattle.model.specs.Refusals.{numberOf, answerNumber, answerValues, answered
 use Rattle.model.specs.Calls.{mean, isStep, grounds, valuesOf, effect, after}
 use Rattle.model.proofs.Sound.{sound-facts}
 use Rattle.model.proofs.Calls.{refused-as, accepted-as}
-use Rattle.plic.proofs.Answers.{unsound, passes, outside, inside, nothing, something, none}
+use Rattle.plic.proofs.Answers.{unsound, passes, nothing, something, none}
 use Rattle.plic.proofs.Sounds.{claims-fit, waited-fit}
 use Rattle.plic.specs.Leaves.{openAgeIn}
 use Rattle.plic.proofs.reports.mean.Statement.{statement}
@@ -49,7 +49,7 @@ cast-t16 c = omega (arith, c .before .before .before .before .source-total .ensu
 
 returns-3 : tie.Need-returns-3
 unfolding averaged meanNumber meanValues valuesOf grounds after effect isStep boardClaims boardWaited sourceClaims sourceWaited
-returns-3 c = 
+returns-3 c =
     let s = c .before .before .before .before .before .before .before .before .before .args .t1 in
     (λ i. record { number = 0; values = c .source-total2 .ensures i ∷ c .before .before .before .before .source-total .ensures i ∷ []; state = s })
     ∙ sym (accepted-as mean s (passes s _ (sym (c .before .before .before .before .before .before .before .before .is-sound .ensures) ∙ not-false _ (c .before .before .before .before .before .before .before .if1 .left)) ∙ something _ _ (λ z. c .before .before .before .if2 .left (c .before .before .before .before .source-total .ensures ∙ z)) ∙ none))

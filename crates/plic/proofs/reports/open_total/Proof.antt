@@ -50,15 +50,16 @@ loop-less : tie.Need-loop-less Inv-loop μ-loop
 loop-less c = omega arith
 
 loop-again : tie.Need-loop-again Inv-loop μ-loop
-loop-again c = 
+loop-again c =
     let a = c .before .before .before .before .before .before .args in
-    let l = c .before .before .before .before .before .loop in
-    (omega arith,
-        ap₂ _+_ (l .inv .1) (c .wide .ensures .0 ∙ c .before .open-age .ensures) ∙ sym (sum-more (age (a .clock) (a .stage .now) (a .start .now)) (l .i)),
-        omega (arith, c .wide .ensures .1))
+    let l = c .before .before .before .before .before .loop in (
+      omega arith,
+      ap₂ _+_ (l .inv .1) (c .wide .ensures .0 ∙ c .before .open-age .ensures) ∙ sym (sum-more (age (a .clock) (a .stage .now) (a .start .now)) (l .i)),
+      omega (arith, c .wide .ensures .1),
+    )
 
 returns : tie.Need-returns Inv-loop μ-loop
-returns c = 
+returns c =
     let last : c .before .loop .i ≡ 128 = omega arith in
     c .before .loop .inv .1 ∙ ap (sumTo _) last
 

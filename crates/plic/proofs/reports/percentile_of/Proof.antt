@@ -47,13 +47,13 @@ element-copy-out-below : tie.Need-element-copy-out-below Inv-loop μ-loop
 element-copy-out-below c = omega arith
 
 add-below : tie.Need-add-below Inv-loop μ-loop
-add-below c = 
+add-below c =
     let l = c .before .before .loop in
     let f = at (c .before .before .before .before .args .counts .now) in
     omega (arith, sum-more f (l .k), sum-mono f (l .k + 1) 33 (omega arith), l .inv .1, c .before .before .before .before .pre .1, c .before .before .before .before .pre .2)
 
 mul-if1 : tie.Need-mul-if1 Inv-loop μ-loop
-mul-if1 c = 
+mul-if1 c =
     let l = c .before .before .loop in
     let f = at (c .before .before .before .before .args .counts .now) in
     omega (arith, sum-more f (l .k), sum-mono f (l .k + 1) 33 (omega arith), l .inv .1, c .before .before .before .before .pre .1, c .before .before .before .before .pre .2)
@@ -62,14 +62,14 @@ upper-end-requires : tie.Need-upper-end-requires Inv-loop μ-loop
 upper-end-requires c κs = omega arith
 
 returns : tie.Need-returns Inv-loop μ-loop
-returns c = 
+returns c =
     let l = c .before .before .before .before .loop in
     let start = c .before .before .before .before .before .before in
     let f = at (start .args .counts .now) in
     let share : c .before .before .before .before .before .wide .result * start .args .all ≡ start .args .p * sumTo f 33 = ap₂ _*_ (c .before .before .before .before .before .wide .ensures .0) (start .pre .1) in
     c .upper-end .ensures
     ∙ percentile-found f (start .args .p) (start .pre .0) (l .k) (omega arith)
-        (omega (arith, next f (l .k), l .inv .1, share, c .before .if1 .taken)) (l .inv .2)
+    (omega (arith, next f (l .k), l .inv .1, share, c .before .if1 .taken)) (l .inv .2)
 
 add-k : tie.Need-add-k Inv-loop μ-loop
 add-k c = omega arith
@@ -78,27 +78,29 @@ loop-less : tie.Need-loop-less Inv-loop μ-loop
 loop-less c = omega arith
 
 loop-again : tie.Need-loop-again Inv-loop μ-loop
-loop-again c = 
+loop-again c =
     let l = c .before .before .before .loop in
     let start = c .before .before .before .before .before in
     let f = at (start .args .counts .now) in
-    let share : c .before .before .before .before .wide .result * start .args .all ≡ start .args .p * sumTo f 33 = ap₂ _*_ (c .before .before .before .before .wide .ensures .0) (start .pre .1) in
-    (omega arith, omega (arith, sum-more f (l .k), l .inv .1),
-        λ j h. up-to (λ j. sumTo f (suc j) * 1000 < start .args .p * sumTo f 33) (l .k) (l .inv .2)
-            (omega (arith, next f (l .k), l .inv .1, share, c .if1 .left)) j (omega arith))
+    let share : c .before .before .before .before .wide .result * start .args .all ≡ start .args .p * sumTo f 33 = ap₂ _*_ (c .before .before .before .before .wide .ensures .0) (start .pre .1) in (
+      omega arith,
+      omega (arith, sum-more f (l .k), l .inv .1),
+      λ j h. up-to (λ j. sumTo f (suc j) * 1000 < start .args .p * sumTo f 33) (l .k) (l .inv .2)
+          (omega (arith, next f (l .k), l .inv .1, share, c .if1 .left)) j (omega arith),
+    )
 
 upper-end-requires-2 : tie.Need-upper-end-requires-2 Inv-loop μ-loop
 upper-end-requires-2 c κs = omega arith
 
 returns-2 : tie.Need-returns-2 Inv-loop μ-loop
-returns-2 c = 
+returns-2 c =
     let l = c .before .before .loop in
     let start = c .before .before .before .before in
     let f = at (start .args .counts .now) in
     let last : l .k ≡ 32 = omega arith in
     c .upper-end2 .ensures
     ∙ percentile-found f (start .args .p) (start .pre .0) 32 (omega arith)
-        (omega (arith, mul-le-mul-right (sumTo f 33) (start .pre .0))) (λ j h. l .inv .2 j (omega arith))
+    (omega (arith, mul-le-mul-right (sumTo f 33) (start .pre .0))) (λ j h. l .inv .2 j (omega arith))
 
 pub percentile-of-spec : {M : Type 1} → statement M
 percentile-of-spec =

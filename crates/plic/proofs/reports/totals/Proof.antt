@@ -20,7 +20,7 @@ use Rattle.model.specs.Refusals.{numberOf, answerNumber, answerValues, answered
 use Rattle.model.specs.Calls.{totals, isStep, grounds, valuesOf, effect, after}
 use Rattle.model.proofs.Sound.{sound-facts}
 use Rattle.model.proofs.Calls.{refused-as, accepted-as}
-use Rattle.plic.proofs.Answers.{unsound, passes, outside, inside, nothing, something, none}
+use Rattle.plic.proofs.Answers.{unsound, passes, nothing, something, none}
 use Rattle.plic.proofs.Sounds.{claims-fit, waited-fit}
 use Rattle.plic.specs.Leaves.{openAgeIn}
 use Rattle.plic.proofs.reports.totals.Statement.{statement}
@@ -48,7 +48,7 @@ cast-t17 c = omega (arith, c .before .before .before .before .before .before .be
 
 returns-2 : tie.Need-returns-2
 unfolding totalled totalsNumber totalsValues valuesOf grounds after effect isStep boardClaims boardWaited boardOpen sourceClaims sourceWaited openAge isPending request openAgeIn
-returns-2 c = 
+returns-2 c =
     let s = c .before .before .before .before .before .before .before .before .before .before .before .before .args .t1 in
     (λ i. record { number = 0; values = s .clock ∷ c .before .before .before .before .before .before .before .source-total .ensures i ∷ c .before .before .before .before .source-total2 .ensures i ∷ c .open-total .ensures i ∷ []; state = s })
     ∙ sym (accepted-as totals s (passes s _ (sym (c .before .before .before .before .before .before .before .before .before .before .before .is-sound .ensures) ∙ not-false _ (c .before .before .before .before .before .before .before .before .before .before .if1 .left)) ∙ none))

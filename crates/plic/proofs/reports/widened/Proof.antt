@@ -44,17 +44,19 @@ loop-less : tie.Need-loop-less Inv-loop μ-loop
 loop-less c = omega arith
 
 loop-again : tie.Need-loop-again Inv-loop μ-loop
-loop-again c = 
+loop-again c =
     let l = c .before .before .before .loop in
-    let counts = c .before .before .before .before .args .counts .now in
-    (omega arith, length-set (l .wider) (l .k) (c .wide .result) ∙ l .inv .1,
-        λ j h. up-to (λ j. getD (set (l .wider) (l .k) (c .wide .result)) j 0 ≡ getD counts j 0) (l .k)
-        (λ j k. getD-set-other (l .wider) (l .k) j (c .wide .result) 0 (ne-of-lt k) ∙ l .inv .2 j k)
-        (getD-set-same (l .wider) (l .k) (c .wide .result) 0 (omega arith) ∙ c .wide .ensures .0)
-        j (omega arith))
+    let counts = c .before .before .before .before .args .counts .now in (
+      omega arith,
+      length-set (l .wider) (l .k) (c .wide .result) ∙ l .inv .1,
+      λ j h. up-to (λ j. getD (set (l .wider) (l .k) (c .wide .result)) j 0 ≡ getD counts j 0) (l .k)
+          (λ j k. getD-set-other (l .wider) (l .k) j (c .wide .result) 0 (ne-of-lt k) ∙ l .inv .2 j k)
+          (getD-set-same (l .wider) (l .k) (c .wide .result) 0 (omega arith) ∙ c .wide .ensures .0)
+          j (omega arith),
+    )
 
 returns : tie.Need-returns Inv-loop μ-loop
-returns c = 
+returns c =
     let l = c .before .loop in
     ext-getD 0 (l .wider) (c .before .before .args .counts .now) (l .inv .1 ∙ sym (c .before .before .pre)) (λ j h. l .inv .2 j (omega arith))
 

@@ -34,7 +34,7 @@ loop-again : tie.Need-loop-again Inv-loop μ-loop
 loop-again c = (omega arith, ap₂ _&&_ (c .before .before .loop .inv .1) (c .context-sound .ensures) ∙ sym (all-more _ (c .before .before .loop .c)))
 
 returns : tie.Need-returns Inv-loop μ-loop
-returns c = 
+returns c =
     let last : c .before .loop .c ≡ 8 = omega arith in
     c .before .loop .inv .1 ∙ ap (allTo _) last
 

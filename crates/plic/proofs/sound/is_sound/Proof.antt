@@ -53,7 +53,7 @@ returns : tie.Need-returns
 returns c = sym (unsound-limits _ (sym (c .before .within-limits .ensures) ∙ not-true _ (c .if1 .taken)))
 
 highest-requires : tie.Need-highest-requires
-highest-requires c κs = 
+highest-requires c κs =
     let s = c .before .before .args .t1 in
     limits-facts (s .shape .sources) (s .shape .contexts) (s .shape .bits) (limits c) .bits .1
 
@@ -61,7 +61,7 @@ sources-sound-requires : tie.Need-sources-sound-requires
 sources-sound-requires c κs = search needs
 
 contexts-sound-requires : tie.Need-contexts-sound-requires
-contexts-sound-requires c κs = 
+contexts-sound-requires c κs =
     let at = c .before .before .before .before .before .before .before .before .before .before .before .before .before .before in
     let s = c .before .before .before .before .before .before .before .before .before .before .before .before .before .before .before .before .args .t1 in
     limits-facts (s .shape .sources) (s .shape .contexts) (s .shape .bits) (limits at) .sources .1
@@ -71,11 +71,11 @@ sums-sound-requires c κs = search needs
 
 returns-2 : tie.Need-returns-2
 unfolding soundSourceAt soundSourceIn soundContext soundContextIn kindOf request priority threshold enableWord sourceClaims sourceWaited boardClaims boardWaited bucketClaims bucketTicks sources-at contexts-at
-returns-2 c = 
+returns-2 c =
     let s = c .before .before .before .before .before .before .before .before .before .before .before .before .before .before .before .before .before .before .before .before .before .before .before .args .t1 in
     let most = c .before .before .before .before .before .before .before .before .before .before .before .before .before .before .before .before .before .before .before .before .highest .ensures in
     ap₂ _&&_ (c .before .before .before .before .before .before .before .before .before .before .sources-sound .ensures ∙ ap (sources-at s) most)
-        (ap₂ _&&_ (c .before .before .before .before .before .before .contexts-sound .ensures ∙ ap (contexts-at s) most) (c .sums-sound .ensures))
+    (ap₂ _&&_ (c .before .before .before .before .before .before .contexts-sound .ensures ∙ ap (contexts-at s) most) (c .sums-sound .ensures))
     ∙ sym (sound-parts s (types (c .before .before .before .before .before .before .before .before .before .before .before .before .before .before .before .before .before .before .before .before .before .before .before)) (limits (c .before .before .before .before .before .before .before .before .before .before .before .before .before .before .before .before .before .before .before .before .before)))
 
 pub is-sound-spec : {M : Type 1} → statement M

@@ -39,14 +39,15 @@ loop-less : tie.Need-loop-less Inv-loop μ-loop
 loop-less c = omega arith
 
 loop-again : tie.Need-loop-again Inv-loop μ-loop
-loop-again c = 
-    let l = c .before .before .before .loop in
-    (omega arith,
-        ap₂ _+_ (l .inv .1) (c .wide .ensures .0) ∙ sym (sum-more (λ j. getD (c .before .before .before .before .args .counts .now) j 0) (l .i)),
-        omega (arith, c .wide .ensures .1))
+loop-again c =
+    let l = c .before .before .before .loop in (
+      omega arith,
+      ap₂ _+_ (l .inv .1) (c .wide .ensures .0) ∙ sym (sum-more (λ j. getD (c .before .before .before .before .args .counts .now) j 0) (l .i)),
+      omega (arith, c .wide .ensures .1),
+    )
 
 returns : tie.Need-returns Inv-loop μ-loop
-returns c = 
+returns c =
     let last : c .before .loop .i ≡ 128 = omega arith in
     c .before .loop .inv .1 ∙ ap (sumTo (λ j. getD (c .before .before .args .counts .now) j 0)) last
 

@@ -34,7 +34,7 @@ loop-again : tie.Need-loop-again Inv-loop μ-loop
 loop-again c = (omega arith, ap₂ _&&_ (c .before .before .loop .inv .1) (c .source-sound-at .ensures) ∙ sym (all-more _ (c .before .before .loop .i)))
 
 returns : tie.Need-returns Inv-loop μ-loop
-returns c = 
+returns c =
     let last : c .before .loop .i ≡ 128 = omega arith in
     c .before .loop .inv .1 ∙ ap (allTo _) last
 

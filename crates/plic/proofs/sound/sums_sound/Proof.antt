@@ -25,7 +25,7 @@ wide-requires : tie.Need-wide-requires
 wide-requires c κs = search needs
 
 returns : tie.Need-returns
-returns c = 
+returns c =
     let claimed = c .before .before .before .before .source-total .ensures in
     let ticks = c .before .before .before .source-total2 .ensures in
     let booked = c .before .before .bucket-total .ensures in

@@ -40,7 +40,7 @@ element-copy-out-if1 : tie.Need-element-copy-out-if1 Inv-loop μ-loop
 element-copy-out-if1 c = omega arith
 
 returns : tie.Need-returns Inv-loop μ-loop
-returns c = 
+returns c =
     let l = c .before .before .before .loop in
     let f = at (c .before .before .before .before .args .ticks .now) in
     let total = c .before .before .before .before .args .total in
@@ -63,12 +63,12 @@ loop-less : tie.Need-loop-less Inv-loop μ-loop
 loop-less c = omega arith
 
 loop-again : tie.Need-loop-again Inv-loop μ-loop
-loop-again c = 
+loop-again c =
     let l = c .before .before .before .before .loop in
     (omega arith, omega (arith, sum-more (λ j. getD (c .before .before .before .before .before .args .ticks .now) j 0) (l .k), c .before .if1 .left, l .inv .1))
 
 returns-2 : tie.Need-returns-2 Inv-loop μ-loop
-returns-2 c = 
+returns-2 c =
     let last : c .before .loop .k ≡ 33 = omega arith in
     let f = at (c .before .before .args .ticks .now) in
     none-left _ _ _ (ap (λ (k : ℕ). c .before .loop .left + sumTo f k) (sym last) ∙ c .before .loop .inv .1)

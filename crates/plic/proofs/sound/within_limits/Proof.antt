@@ -11,7 +11,7 @@ use Rattle.plic.proofs.sound.within_limits.Tie as tie
 
 returns : tie.Need-returns
 unfolding withinLimits
-returns c = 
+returns c =
     let a = c .args in
     joined-all (leb 1 (a .n)) (leb (a .n) 127 ∷ leb 1 (a .m) ∷ leb (a .m) 8 ∷ leb 1 (a .b) ∷ leb (a .b) 5 ∷ [])
 

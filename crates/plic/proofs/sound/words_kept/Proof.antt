@@ -48,15 +48,16 @@ loop-less : tie.Need-loop-less Inv-loop μ-loop
 loop-less c = omega arith
 
 loop-again : tie.Need-loop-again Inv-loop μ-loop
-loop-again c = 
+loop-again c =
     let a = c .before .before .before .before .args in
-    let l = c .before .before .before .loop in
-    (omega arith,
-        ap₂ (λ b x. b && eqb (getD (a .enable .now) (a .c * 4 + l .w) 0) x) (l .inv .1) (c .kept-word .ensures)
-        ∙ sym (all-more _ (l .w)))
+    let l = c .before .before .before .loop in (
+      omega arith,
+      ap₂ (λ b x. b && eqb (getD (a .enable .now) (a .c * 4 + l .w) 0) x) (l .inv .1) (c .kept-word .ensures)
+          ∙ sym (all-more _ (l .w)),
+    )
 
 returns : tie.Need-returns Inv-loop μ-loop
-returns c = 
+returns c =
     let last : c .before .loop .w ≡ 4 = omega arith in
     c .before .loop .inv .1 ∙ ap (allTo _) last
 

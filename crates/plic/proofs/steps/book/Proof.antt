@@ -63,12 +63,13 @@ element-write-bucket-ticks c = search needs
 
 returns : tie.Need-returns
 unfolding counted booked
-returns c = 
-    let a = c .before .before .before .before .before .args in
-    (refl,
-        ap (λ (k : ℕ). bucketsOf (set (a .bucket-claims .now) k (getD (a .bucket-claims .now) k 0 + 1))
-            (set (a .bucket-ticks .now) k (getD (a .bucket-ticks .now) k 0 + a .w)))
-        (c .before .before .before .before .bucket-of .ensures .0))
+returns c =
+    let a = c .before .before .before .before .before .args in (
+      refl,
+      ap (λ (k : ℕ). bucketsOf (set (a .bucket-claims .now) k (getD (a .bucket-claims .now) k 0 + 1))
+          (set (a .bucket-ticks .now) k (getD (a .bucket-ticks .now) k 0 + a .w)))
+          (c .before .before .before .before .bucket-of .ensures .0),
+    )
 
 pub book-spec : {M : Type 1} → statement M
 book-spec =

@@ -49,28 +49,34 @@ element-write-start : tie.Need-element-write-start
 element-write-start c = below (c .before)
 
 book-requires : tie.Need-book-requires
-book-requires c κs = 
+book-requires c κs =
     let at = c .before .before .before .before .before in
     let start = c .before .before .before .before .before .before .before .before in
     let w = at .before .winner .result in
     let bookable = start .pre .2 in
     let wait = start .args .clock - getD (start .args .start .now) w 0 in
     let most : wait ≤ 4294967295 = omega (arith, start .fits .clock) in
-    let bucket : bucketOf wait < 33 = omega (arith, bucket-holds wait most .exists) in
-    (below at, bookable .claimed w (below at), bookable .waiting w (below at) (won at .2), bookable .number (bucketOf wait) bucket,
-        omega (arith, bookable .total (bucketOf wait) bucket))
+    let bucket : bucketOf wait < 33 = omega (arith, bucket-holds wait most .exists) in (
+      below at,
+      bookable .claimed w (below at),
+      bookable .waiting w (below at) (won at .2),
+      bookable .number (bucketOf wait) bucket,
+      omega (arith, bookable .total (bucketOf wait) bucket),
+    )
 
 returns-2 : tie.Need-returns-2
-returns-2 c = 
+returns-2 c =
     let at = c .before .before .before .before .before .before in
-    let serves = ne-eqb _ _ (at .if1 .left) in
-    (at .before .winner .ensures, below at,
-        record {
-          stages = sym (cond-not _ _ serves);
-          starts = sym (cond-not _ _ serves);
-          counted = c .book .ensures .0 ∙ sym (cond-not _ _ serves);
-          booked = c .book .ensures .1 ∙ sym (cond-not _ _ serves);
-        })
+    let serves = ne-eqb _ _ (at .if1 .left) in (
+      at .before .winner .ensures,
+      below at,
+      record {
+        stages = sym (cond-not _ _ serves);
+        starts = sym (cond-not _ _ serves);
+        counted = c .book .ensures .0 ∙ sym (cond-not _ _ serves);
+        booked = c .book .ensures .1 ∙ sym (cond-not _ _ serves);
+      },
+    )
 
 pub claim-spec : {M : Type 1} → statement M
 claim-spec =

@@ -44,14 +44,14 @@ element-write-start c = search needs
 
 returns : tie.Need-returns
 unfolding completedAt setRequest request
-returns c = 
+returns c =
     let a = c .before .before .before .before .before .args in
     let r = c .completed .result in
     let q = requestsOf (a .stage .now) (a .line .now) (a .extra .now) (a .start .now) in
     let same : r .line ≡ getD (a .line .now) (a .i) false =
-        ap (λ (x : Request). x .line) (c .completed .ensures) ∙ completed-line (a .kind) (a .clock) (request q (a .i)) in
+    ap (λ (x : Request). x .line) (c .completed .ensures) ∙ completed-line (a .kind) (a .clock) (request q (a .i)) in
     let kept : a .line .now ≡ set (a .line .now) (a .i) (r .line) =
-        sym (ap (set (a .line .now) (a .i)) same ∙ set-getD (a .line .now) (a .i) false) in
+    sym (ap (set (a .line .now) (a .i)) same ∙ set-getD (a .line .now) (a .i) false) in
     (λ k. requestsOf (set (a .stage .now) (a .i) (r .stage)) (kept k) (set (a .extra .now) (a .i) (r .extra)) (set (a .start .now) (a .i) (r .start)))
     ∙ ap (setRequest q (a .i)) (c .completed .ensures)
 

@@ -28,12 +28,12 @@ complete-requires : tie.Need-complete-requires
 complete-requires c κs = omega arith
 
 returns-3 : tie.Need-returns-3
-returns-3 c = 
+returns-3 c =
     let a = c .before .before .before .before .before .before .before .before .before .before .before .args in
     c .complete .ensures
     ∙ takes-effect (a .n) (a .enable .now) (a .kind .now) (a .clock) (a .c) (a .v)
-        (requestsOf (a .stage .now) (a .line .now) (a .extra .now) (a .start .now)) (omega (arith, c .before .before .before .before .before .before .before .before .before .before .if1 .left)) (c .before .before .before .before .before .before .before .before .before .if2 .left)
-        (sym (c .before .before .before .before .before .before .before .before .is-enabled .ensures) ∙ c .before .before .before .before .before .before .before .if3 .taken) (c .before .before .before .before .before .if4 .taken)
+    (requestsOf (a .stage .now) (a .line .now) (a .extra .now) (a .start .now)) (omega (arith, c .before .before .before .before .before .before .before .before .before .before .if1 .left)) (c .before .before .before .before .before .before .before .before .before .if2 .left)
+    (sym (c .before .before .before .before .before .before .before .before .is-enabled .ensures) ∙ c .before .before .before .before .before .before .before .if3 .taken) (c .before .before .before .before .before .if4 .taken)
 
 returns-4 : tie.Need-returns-4
 returns-4 c = not-serving _ _ _ _ _ _ _ (c .if4 .left)

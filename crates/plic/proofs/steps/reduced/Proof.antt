@@ -16,7 +16,7 @@ rem-result : tie.Need-rem-result
 rem-result c = omega (arith, c .power .ensures, pow-pos (c .before .args .bits))
 
 cast-result : tie.Need-cast-result
-cast-result c = 
+cast-result c =
     let p = 2 ^ c .before .args .bits in
     omega (arith, ap (λ (x : ℕ). c .before .args .v % x) (c .power .ensures), mod-lt (c .before .args .v) {m = p} (pow-pos (c .before .args .bits)), pow-mono {i = c .before .args .bits} {j = 5} (c .before .pre))
 

@@ -42,7 +42,7 @@ element-write-start c = search needs
 
 returns : tie.Need-returns
 unfolding lineSet setRequest request
-returns c = 
+returns c =
     let a = c .before .before .before .before .before .args in
     ap (setRequest (requestsOf (a .stage .now) (a .line .now) (a .extra .now) (a .start .now)) (a .i)) (c .line-changed .ensures)
 

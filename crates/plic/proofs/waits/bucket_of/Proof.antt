@@ -35,7 +35,7 @@ loop-again : tie.Need-loop-again Inv-loop μ-loop
 loop-again c = (omega arith, below-more _ _ (c .before .before .before .loop .inv .1) (omega (arith, c .before .upper-end .ensures)))
 
 returns-2 : tie.Need-returns-2 Inv-loop μ-loop
-returns-2 c = 
+returns-2 c =
     let last : c .before .loop .k ≡ 32 = omega arith in
     (bucket-found _ 32 (omega arith) (λ j h. c .before .loop .inv .1 j (omega arith)) (omega (arith, upper-rule 32 (omega arith), c .before .before .fits .wait)), omega arith)
 

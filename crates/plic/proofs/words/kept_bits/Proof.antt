@@ -25,7 +25,7 @@ sub-result : tie.Need-sub-result
 sub-result c = search needs
 
 returns : tie.Need-returns
-returns c = 
+returns c =
     let n = c .before .before .args .n in
     let v = c .before .before .args .v in
     let room : n + 1 - c .before .before .args .w * 32 ≡ n + 1 = omega arith in
@@ -33,7 +33,7 @@ returns c =
     ap (λ (x : ℕ). x - x % 2) low ∙ sym (ap (λ (w : ℕ). kept n w v) (c .if1 .taken) ∙ kept-first n v (c .before .before .fits .v .fits))
 
 returns-2 : tie.Need-returns-2
-returns-2 c = 
+returns-2 c =
     let n = c .before .before .args .n in
     let w = c .before .before .args .w in
     c .before .low-bits .ensures

@@ -47,12 +47,12 @@ element-copy-out-if1 : tie.Need-element-copy-out-if1 Inv-loop μ-loop
 element-copy-out-if1 c = omega arith
 
 add-word : tie.Need-add-word Inv-loop μ-loop
-add-word c = 
+add-word c =
     let l = c .before .before .before .loop in
     omega (arith, packed-lt (at (c .before .before .before .before .args .stage .now) (c .before .before .before .before .args .w * 32)) (l .j), pow-mono {i = l .j} {j = 31} (omega arith))
 
 mul-worth : tie.Need-mul-worth Inv-loop μ-loop
-mul-worth c = 
+mul-worth c =
     let l = c .before .before .before .loop in
     omega (arith, pow-mono {i = l .j} {j = 31} (omega arith))
 
@@ -63,20 +63,21 @@ loop-less : tie.Need-loop-less Inv-loop μ-loop
 loop-less c = omega arith
 
 loop-again : tie.Need-loop-again Inv-loop μ-loop
-loop-again c = 
+loop-again c =
     let l = c .before .before .before .loop in
-    let f = at (c .before .before .before .before .args .stage .now) (c .before .before .before .before .args .w * 32) in
-    (omega arith,
-        ⊎-elim
-        (λ w. w .1 ∙ sym (packed-more f (l .j) ∙ ap (λ (x : ℕ). packed f (l .j) + x) (cond-so _ _ (eq-eqb _ _ (w .0 .taken)))
-            ∙ sym (ap₂ _+_ (l .inv .1) (l .inv .2))))
-        (λ w. w .1 ∙ sym (packed-more f (l .j) ∙ ap (λ (x : ℕ). packed f (l .j) + x) (cond-not _ _ (ne-eqb _ _ (w .0 .left)))
-            ∙ add-zero (packed f (l .j)) ∙ sym (l .inv .1)))
-        (c .if1 .came),
-        omega (arith, two-pow-more (l .j)))
+    let f = at (c .before .before .before .before .args .stage .now) (c .before .before .before .before .args .w * 32) in (
+      omega arith,
+      ⊎-elim
+          (λ w. w .1 ∙ sym (packed-more f (l .j) ∙ ap (λ (x : ℕ). packed f (l .j) + x) (cond-so _ _ (eq-eqb _ _ (w .0 .taken)))
+          ∙ sym (ap₂ _+_ (l .inv .1) (l .inv .2))))
+          (λ w. w .1 ∙ sym (packed-more f (l .j) ∙ ap (λ (x : ℕ). packed f (l .j) + x) (cond-not _ _ (ne-eqb _ _ (w .0 .left)))
+          ∙ add-zero (packed f (l .j)) ∙ sym (l .inv .1)))
+          (c .if1 .came),
+      omega (arith, two-pow-more (l .j)),
+    )
 
 cast-result : tie.Need-cast-result Inv-loop μ-loop
-cast-result c = 
+cast-result c =
     let l = c .before .loop in
     let last : l .j ≡ 32 = omega arith in
     let f = at (c .before .before .args .stage .now) (c .before .before .args .w * 32) in
@@ -84,7 +85,7 @@ cast-result c =
 
 returns : tie.Need-returns Inv-loop μ-loop
 unfolding pendingWordIn
-returns c = 
+returns c =
     let last : c .before .loop .j ≡ 32 = omega arith in
     c .before .loop .inv .1 ∙ ap (packed (at (c .before .before .args .stage .now) (c .before .before .args .w * 32))) last
 

@@ -1,0 +1,30 @@
+-- `calls::line_made` meets its contract: the step on the sound state, and one step more.
+-- Assumes nothing.
+use borrow.Author.Needs.{needs}
+use mathlib.Core.Path.{_≡_, _∙_, refl, sym, ap, ap₂}
+use Prim.Native.Nat.{ℕ, _+_, _*_, _≤_, _<_}
+use native.Mathlib.Omega.{arith}
+use mathlib.Core.List.{List, [], _∷_}
+use lib.ListN.{getD}
+use Rattle.model.specs.declared.State.{State}
+use Rattle.model.specs.Board.{withSteps, withClock}
+use Rattle.model.specs.Refusals.{answerNumber, answerValues, answered, firstOf}
+use Rattle.model.specs.Calls.{line, isStep, grounds, valuesOf, effect, after}
+use Rattle.model.specs.declared.Answer as answers
+use Rattle.plic.proofs.calls.line_made.Statement.{statement}
+use Rattle.plic.proofs.calls.line_made.Tie as tie
+
+line-on-requires : tie.Need-line-on-requires
+line-on-requires c κs = c .before .before .before .before .before .before .before .before .before .before .before .before .before .before .before .before .before .pre
+
+add-next : tie.Need-add-next
+add-next c = omega (arith, c .before .before .before .before .before .before .before .before .before .before .before .before .before .before .before .before .before .before .pre .0 .room)
+
+returns : tie.Need-returns
+unfolding after effect isStep withSteps
+returns c =
+    let s = c .before .before .before .before .before .before .before .before .before .before .before .before .before .before .before .before .before .before .args .t1 in
+    ap (λ (k : State). record { answer = answers.the-variants.Value 0; state = withSteps k (s .steps + 1) }) (c .line-on .ensures)
+
+pub line-made-spec : {M : Type 1} → statement M
+line-made-spec = tie.close (tie.spec line-on-requires add-next returns)

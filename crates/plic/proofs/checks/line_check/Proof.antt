@@ -1,0 +1,31 @@
+-- `checks::line_check` meets its contract: each way out is the first ground that holds.
+-- Assumes nothing.
+use borrow.Author.Needs.{needs}
+use mathlib.Core.Path.{_≡_, _∙_, refl, sym, ap, ap₂}
+use Prim.Native.Nat.{ℕ, _+_, _*_, _≤_, _<_}
+use native.Mathlib.Omega.{arith}
+use mathlib.Core.Bool.{not}
+use borrow.Author.Tests.{le-leb, lt-leb, lt-ltb, le-ltb, eq-eqb, ne-eqb}
+use Rattle.model.specs.Refusals.{firstOf}
+use Rattle.model.proofs.Calls.{first-hit, first-miss}
+use Rattle.plic.proofs.Answers.{none}
+use Rattle.model.specs.Board.{isSource}
+use Rattle.plic.proofs.checks.line_check.Statement.{statement}
+use Rattle.plic.proofs.checks.line_check.Tie as tie
+
+returns : tie.Need-returns
+returns c = sym (first-hit _ _ (c .if1 .taken))
+
+returns-2 : tie.Need-returns-2
+returns-2 c = sym (first-miss _ _ (c .before .if1 .left) ∙ first-hit _ _ (le-leb _ _ (c .if2 .taken)))
+
+returns-3 : tie.Need-returns-3
+unfolding isSource
+returns-3 c = sym (first-miss _ _ (c .before .before .if1 .left) ∙ first-miss _ _ (lt-leb _ _ (c .before .if2 .left)) ∙ first-hit _ _ (c .if3 .taken))
+
+returns-4 : tie.Need-returns-4
+unfolding isSource
+returns-4 c = sym (first-miss _ _ (c .before .before .if1 .left) ∙ first-miss _ _ (lt-leb _ _ (c .before .if2 .left)) ∙ first-miss _ _ (c .if3 .left) ∙ none)
+
+pub line-check-spec : {M : Type 1} → statement M
+line-check-spec = tie.close (tie.spec returns returns-2 returns-3 returns-4)
