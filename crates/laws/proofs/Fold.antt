@@ -6,7 +6,7 @@ use mathlib.Core.Logic.{_⊎_, ⊎-elim, _≢_}
 use mathlib.Core.List.{List, [], _∷_}
 use lib.ListN.{getD}
 use Prim.Native.Nat.{ℕ, zero, suc, _+_, _*_, _<_, _≤_}
-use native.Mathlib.Nat.{not-suc-le-zero, eq-or-lt-of-le, le-of-suc-le-suc, le-refl, le-of-eq, lt-irrefl, le-antisymm}
+use native.Mathlib.Nat.{mul-zero, mul-add, not-suc-le-zero, eq-or-lt-of-le, le-of-suc-le-suc, le-refl, le-of-eq, lt-irrefl, le-antisymm}
 use native.Mathlib.Numerals.{add-one}
 use native.Mathlib.Omega.{arith}
 use lib.Dec.{ltb}
@@ -62,6 +62,11 @@ pub sum-add : (f g : ℕ → ℕ) (n : ℕ) → sumTo (λ i. f i + g i) n ≡ su
 unfolding sumTo
 sum-add f g zero = refl
 sum-add f g (suc n) = let ih : sumTo (λ i. f i + g i) n ≡ sumTo f n + sumTo g n = sum-add f g n in omega arith
+
+pub sum-scale : (m : ℕ) (f : ℕ → ℕ) (n : ℕ) → sumTo (λ i. m * f i) n ≡ m * sumTo f n
+unfolding sumTo
+sum-scale m f zero = sym (mul-zero m)
+sum-scale m f (suc n) = ap (λ (x : ℕ). x + m * f n) (sum-scale m f n) ∙ sym (mul-add m (sumTo f n) (f n))
 
 -- where f and g differ at i alone, their sums differ by as much
 pub sum-change : (f g : ℕ → ℕ) (n i : ℕ) → i < n → ((j : ℕ) → j ≢ i → f j ≡ g j) → sumTo g n + f i ≡ sumTo f n + g i

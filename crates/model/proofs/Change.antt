@@ -32,7 +32,7 @@ use Rattle.model.proofs.Registers.{context-range}
 use Rattle.model.proofs.Board.{request-same, request-other, roomy-set}
 
 -- an index is the one that changed, or another
-same-or-other : (P : ℕ → Type 0) (i j : ℕ) → P i → (j ≢ i → P j) → P j
+pub same-or-other : (P : ℕ → Type 0) (i j : ℕ) → P i → (j ≢ i → P j) → P j
 same-or-other P i j p f =
     ⊎-elim (λ (t : So (eqb j i)). subst P (sym (eqb-true j i t)) p) (λ t. f (eqb-false j i t)) (dichotomy (eqb j i))
 

@@ -11,3 +11,4 @@ pub mod Make
 pub mod Refusals
 pub mod Reports
 pub mod Tallies
+pub mod Account

@@ -32,6 +32,23 @@ module _ (k : Counts) (i w : ℕ) where
   )
 
 module _ (b : Buckets) (w : ℕ) (h : bucketOf w < 33) where
+  pub booked-same : length (b .claims) ≡ 33 → length (b .ticks) ≡ 33 →
+      (bucketClaims (booked b w) (bucketOf w) ≡ bucketClaims b (bucketOf w) + 1)
+      × (bucketTicks (booked b w) (bucketOf w) ≡ bucketTicks b (bucketOf w) + w)
+  unfolding booked bucketClaims bucketTicks
+  booked-same c t = (
+    getD-set-same (b .claims) (bucketOf w) _ 0 (omega (arith, c)),
+    getD-set-same (b .ticks) (bucketOf w) _ 0 (omega (arith, t)),
+  )
+
+  pub booked-other : (k : ℕ) → k ≢ bucketOf w →
+      (bucketClaims (booked b w) k ≡ bucketClaims b k) × (bucketTicks (booked b w) k ≡ bucketTicks b k)
+  unfolding booked bucketClaims bucketTicks
+  booked-other k ne = (
+    getD-set-other (b .claims) (bucketOf w) k _ 0 ne,
+    getD-set-other (b .ticks) (bucketOf w) k _ 0 ne,
+  )
+
   pub booked-sums : length (b .claims) ≡ 33 → length (b .ticks) ≡ 33 →
       (sumTo (bucketClaims (booked b w)) 33 ≡ sumTo (bucketClaims b) 33 + 1)
       × (sumTo (bucketTicks (booked b w)) 33 ≡ sumTo (bucketTicks b) 33 + w)

@@ -5,3 +5,4 @@ pub mod Life
 pub mod Registers
 pub mod Sound
 pub mod Calls
+pub mod Run

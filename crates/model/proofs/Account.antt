@@ -1,0 +1,547 @@
+-- Demand 3, proved: every run from a fresh state is accounted for to the tick.
+-- Each call is a change of one of three forms: no wait ends and no tick passes, the clock advances, or a source is claimed.
+-- Assumes nothing.
+use mathlib.Core.Path.{_≡_, _∙_, refl, sym, ap, subst, subst₂}
+use mathlib.Core.Bool.{Bool, true, false, not, cond, _&&_, So}
+use mathlib.Core.Logic.{_⊎_, ⊎-elim, _≢_}
+use mathlib.Core.List.{List, [], _∷_, _++_}
+use Prim.Native.Nat.{ℕ, zero, suc, _+_, _-_, _*_, _≤_, _<_}
+use native.Mathlib.Omega.{arith}
+use lib.Dec.{ltb, eqb}
+use lib.ListN.{length, getD, replicate, getD-replicate}
+use borrow.Author.Tests.{eqb-true, eqb-false, eq-eqb, ne-eqb}
+use Rattle.laws.specs.Fold.{sumTo}
+use Rattle.laws.proofs.Truth.{dichotomy, not-so, so-not, and-left, cond-so, cond-not, cond-elim}
+use Rattle.laws.proofs.Fold.{sum-ext, sum-add, sum-scale, sum-zero}
+use Rattle.model.specs.declared.State.{State}
+use Rattle.model.specs.declared.Shape.{Shape}
+use Rattle.model.specs.declared.Request.{Request}
+use Rattle.model.specs.declared.Requests.{Requests}
+use Rattle.model.specs.declared.Counts.{Counts}
+use Rattle.model.specs.declared.Buckets.{Buckets}
+use Rattle.model.specs.declared.Register.{Register}
+use Rattle.model.specs.declared.Register.the-variants.{Priority, Pending, Enable, Threshold, Claim, Nothing}
+use Rattle.model.specs.Board.{request, setRequest, isSource, kindOf, freshIn, shapeOf, withRequest, withCounts, withClock, withSteps, withSettings}
+use Rattle.model.specs.Waits.{isIdle, isPending, isInService, wait, openAge, bucketOf, counted, booked, sourceClaims, sourceWaited, boardClaims, boardWaited, boardOpen, bucketClaims, bucketTicks}
+use Rattle.model.specs.Life.{lineAt, raised, edgeCounted, levelChanged, edgeChanged, lineChanged, lineChange, advanced, winner, served, claimOf, claimBy, takesEffect, idled, edgeTaken, completed, completeBy}
+use Rattle.model.specs.Registers.{decode, readOf, afterRead, afterWrite, withPriority, withEnable, withThreshold}
+use Rattle.model.specs.Sound.{Roomy, Sound}
+use Rattle.model.specs.Calls.{Call, line, advance, read, write, notification, mean, byClaim, byTime, totals, isStep, grounds, valuesOf, effect, after, respond, make}
+use Rattle.model.specs.Refusals.{firstOf}
+use Rattle.model.specs.Run.{run, bitOf, bitsSet, Event, claimed, finished, Past, swept, claimEvent, completionEvent, happened, rises, grown, noted, past, claimsIn, ticksIn, every, ofSource, ofBucket, lastIsClaim, Separate, agesOpen, Accounted}
+use Rattle.model.proofs.Board.{request-same, request-other, request-sum}
+use Rattle.model.proofs.Claim.{source-range, winner-is}
+use Rattle.model.proofs.Life.{takes-effect-iff}
+use Rattle.model.proofs.Waits.{bucket-holds}
+use Rattle.model.proofs.Change.{same-or-other}
+use Rattle.model.proofs.Tallies.{counted-same, counted-other, counted-sums, booked-same, booked-other}
+use Rattle.model.proofs.Calls.{stays-sound}
+use Rattle.model.proofs.Make.{made-sound}
+
+-- a request is in one stage
+pending-not-idle : (r : Request) → So (isIdle r) → isPending r ≡ false
+unfolding isIdle isPending
+pending-not-idle r t = ne-eqb (r .stage) 1 (λ e. absurd (omega (arith, e, eqb-true (r .stage) 0 t)))
+
+pending-not-served : (r : Request) → So (isInService r) → isPending r ≡ false
+unfolding isInService isPending
+pending-not-served r t = ne-eqb (r .stage) 1 (λ e. absurd (omega (arith, e, eqb-true (r .stage) 2 t)))
+
+-- a request that waits goes on waiting from the same tick, and one that comes to wait does so from this tick on
+record Carries (clock : ℕ) (r after : Request) : Type 0 where
+  kept : So (isPending r) → So (isPending after) × (after .start ≡ r .start)
+  new : isPending r ≡ false → So (isPending after) → after .start ≡ clock
+
+carries-same : (clock : ℕ) (r k : Request) → k .stage ≡ r .stage → k .start ≡ r .start → Carries clock r k
+unfolding isPending
+carries-same clock r k stage start = record {
+  kept = λ t. (ap (λ (x : ℕ). eqb x 1) stage ∙ t, start);
+  new = λ out t. absurd (not-so out (sym (ap (λ (x : ℕ). eqb x 1) stage) ∙ t));
+}
+
+carries-raised : (clock : ℕ) (r k : Request) → isPending r ≡ false → Carries clock r (raised clock k)
+unfolding raised
+carries-raised clock r k out = record { kept = λ t. absurd (not-so out t); new = λ _ _. refl }
+
+carries-idled : (clock : ℕ) (r k : Request) → isPending r ≡ false → Carries clock r (idled k)
+unfolding idled isPending
+carries-idled clock r k out = record { kept = λ t. absurd (not-so out t); new = λ _ t. absurd (not-so refl t) }
+
+-- no wait ends in it and no age changes
+carries-age : (clock : ℕ) (r k : Request) → Carries clock r k → openAge clock k ≡ openAge clock r
+unfolding openAge
+carries-age clock r k f = ⊎-elim
+    (λ (t : So (isPending r)).
+    cond-so _ _ (f .kept t .0) ∙ ap (λ (x : ℕ). clock - x) (f .kept t .1) ∙ sym (cond-so _ _ t))
+    (λ out. cond-elim (λ (x : ℕ). x ≡ cond (isPending r) (clock - r .start) 0) (isPending k)
+    (λ t. omega (arith, f .new out t, cond-not {b = isPending r} (clock - r .start) 0 out))
+    (λ _. sym (cond-not _ _ out)))
+    (dichotomy (isPending r))
+
+-- a change of the line, and one that leaves a source in service there
+abbrev Lined : ℕ → Request → Request → Type 0
+Lined clock r k = Carries clock r k × (r .stage ≡ 2 → k .stage ≡ 2)
+
+module _ (clock : ℕ) (v : Bool) (r : Request) where
+  lined-quiet : Lined clock r (lineAt v r)
+  unfolding lineAt
+  lined-quiet = (carries-same clock r _ refl refl, λ e. e)
+
+  lined-counted : Lined clock r (edgeCounted (lineAt v r))
+  unfolding lineAt edgeCounted
+  lined-counted = (carries-same clock r _ refl refl, λ e. e)
+
+  lined-raised : So (isIdle r) → Lined clock r (raised clock (lineAt v r))
+  unfolding isIdle
+  lined-raised t = (
+    carries-raised clock r _ (pending-not-idle r t),
+    λ e. absurd (omega (arith, e, eqb-true (r .stage) 0 t)),
+  )
+
+  lined : (kind : ℕ) → Lined clock r (lineChanged kind clock v r)
+  unfolding lineChanged levelChanged edgeChanged
+  lined kind = cond-elim (Lined clock r) (eqb kind 0)
+      (λ _. cond-elim (Lined clock r) (isIdle r && v) (λ t. lined-raised (and-left (isIdle r) v t)) (λ _. lined-quiet))
+      (λ _. cond-elim (Lined clock r) (not (r .line) && v)
+      (λ _. cond-elim (Lined clock r) (isIdle r) lined-raised
+      (λ _. cond-elim (Lined clock r) (eqb kind 2) (λ _. lined-counted) (λ _. lined-quiet)))
+      (λ _. lined-quiet))
+
+carries-completed : (kind clock : ℕ) (r : Request) → So (isInService r) → Carries clock r (completed kind clock r)
+unfolding completed
+carries-completed kind clock r t =
+    cond-elim (Carries clock r) (eqb kind 0 && r .line) (λ _. carries-raised clock r r out)
+    (λ _. cond-elim (Carries clock r) (eqb kind 2 && ltb 0 (r .extra))
+    (λ _. carries-raised clock r (edgeTaken r) out) (λ _. carries-idled clock r r out))
+  where
+    out : isPending r ≡ false
+    out = pending-not-served r t
+
+-- what is kept of one source: its stored start is its last rise, its counts are those of its claims, and it is in service if
+-- its last event is a claim
+record At (i : ℕ) (r : Request) (count sum rose since : ℕ) (es : List Event) : Type 0 where
+  started : So (isPending r) → r .start ≡ since
+  claims : count ≡ claimsIn (ofSource i) es
+  ticks : sum ≡ ticksIn (ofSource i) es
+  rises : rose ≡ claimsIn (ofSource i) es + cond (isPending r) 1 0
+  serving : So (lastIsClaim i es) → r .stage ≡ 2
+
+-- its rise, as a run tells it
+abbrev rising : Request → Request → Bool
+rising r k = not (isPending r) && isPending k
+
+at-carried : (i clock count sum rose since : ℕ) (r k : Request) (es fs : List Event) → At i r count sum rose since es → Carries clock r k →
+    claimsIn (ofSource i) fs ≡ claimsIn (ofSource i) es → ticksIn (ofSource i) fs ≡ ticksIn (ofSource i) es →
+    (So (lastIsClaim i fs) → k .stage ≡ 2) →
+    At i k count sum (rose + cond (rising r k) 1 0) (cond (rising r k) clock since) fs
+at-carried i clock count sum rose since r k es fs f g same-claims same-ticks serving = record {
+  started = begun (isPending r) (isPending k) (f .started) (g .kept) (g .new);
+  claims = f .claims ∙ sym same-claims;
+  ticks = f .ticks ∙ sym same-ticks;
+  rises = more (isPending r) (isPending k) (f .rises) (λ t. g .kept t .0);
+  serving = serving;
+}
+  where
+    begun : (b c : Bool) → (So b → r .start ≡ since) → (So b → So c × (k .start ≡ r .start)) → (b ≡ false → So c → k .start ≡ clock) →
+        So c → k .start ≡ cond (not b && c) clock since
+    begun true c old kept new t = kept refl .1 ∙ old refl
+    begun false c old kept new t = new refl t ∙ sym (cond-so clock since t)
+
+    more : (b c : Bool) → rose ≡ claimsIn (ofSource i) es + cond b 1 0 → (So b → So c) →
+        rose + cond (not b && c) 1 0 ≡ claimsIn (ofSource i) fs + cond c 1 0
+    more true true e kept = omega (arith, same-claims)
+    more true false e kept = absurd (not-so refl (kept refl))
+    more false true e kept = omega (arith, same-claims)
+    more false false e kept = omega (arith, same-claims)
+
+-- what every call keeps; the account follows from it
+record Kept (s : State) (p : Past) : Type 0 where
+  at : (i : ℕ) → i < 128 →
+      At i (request (s .requests) i) (sourceClaims (s .counts) i) (sourceWaited (s .counts) i) (p .rose i) (p .since i) (p .events)
+  bucket : (k : ℕ) → k < 33 →
+      (bucketClaims (s .buckets) k ≡ claimsIn (ofBucket k) (p .events)) × (bucketTicks (s .buckets) k ≡ ticksIn (ofBucket k) (p .events))
+  separate : Separate (p .events)
+  claims : boardClaims (s .counts) ≡ claimsIn every (p .events)
+  waited : boardWaited (s .counts) ≡ ticksIn every (p .events)
+  area : p .area ≡ ticksIn every (p .events) + boardOpen (s .clock) (s .requests)
+
+-- n ticks later an open request is n ticks older
+later-open : (clock n : ℕ) (r : Request) → r .start ≤ clock → openAge (clock + n) r ≡ openAge clock r + n * cond (isPending r) 1 0
+unfolding openAge
+later-open clock n r h = by-cases (isPending r)
+  where
+    by-cases : (b : Bool) → cond b (clock + n - r .start) 0 ≡ cond b (clock - r .start) 0 + n * cond b 1 0
+    by-cases true = omega arith
+    by-cases false = omega arith
+
+later-board : (clock n : ℕ) (q : Requests) → ((i : ℕ) → i < 128 → request q i .start ≤ clock) →
+    boardOpen (clock + n) q ≡ boardOpen clock q + n * sumTo (λ i. cond (isPending (request q i)) 1 0) 128
+unfolding boardOpen
+later-board clock n q h =
+    sum-ext _ (λ i. openAge clock (request q i) + n * cond (isPending (request q i)) 1 0) 128 (λ i l. later-open clock n (request q i) (h i l))
+    ∙ sum-add (λ i. openAge clock (request q i)) (λ i. n * cond (isPending (request q i)) 1 0) 128
+    ∙ ap (λ (x : ℕ). boardOpen clock q + x) (sum-scale n (λ i. cond (isPending (request q i)) 1 0) 128)
+
+-- one request changed
+module _ (q : Requests) (i : ℕ) (r : Request) (room : Roomy q) where
+  one-carried : (clock : ℕ) → Carries clock (request q i) r → (j : ℕ) → j < 128 → Carries clock (request q j) (request (setRequest q i r) j)
+  one-carried clock c j = same-or-other (λ j. j < 128 → Carries clock (request q j) (request (setRequest q i r) j)) i j
+      (λ h. subst (Carries clock (request q i)) (sym (request-same q i r room h)) c)
+      (λ ne h. subst (Carries clock (request q j)) (sym (request-other q i r j ne)) (carries-same clock _ _ refl refl))
+
+  one-stage : (Why : ℕ → Type 0) → (Why i → r .stage ≡ 2) → ((j : ℕ) → j < 128 → j ≢ i → Why j → request q j .stage ≡ 2) →
+      (j : ℕ) → j < 128 → Why j → request (setRequest q i r) j .stage ≡ 2
+  one-stage Why own others j = same-or-other (λ j. j < 128 → Why j → request (setRequest q i r) j .stage ≡ 2) i j
+      (λ h y. ap (λ (k : Request). k .stage) (request-same q i r room h) ∙ own y)
+      (λ ne h y. ap (λ (k : Request). k .stage) (request-other q i r j ne) ∙ others j h ne y)
+
+module _ (s : State) (p : Past) (f : Kept s p) where
+  -- no wait ends and no tick passes
+  carried : (t : State) (new : List Event) → t .clock ≡ s .clock → t .counts ≡ s .counts → t .buckets ≡ s .buckets →
+      ((i : ℕ) → i < 128 → Carries (t .clock) (request (s .requests) i) (request (t .requests) i)) →
+      ((pick : ℕ → ℕ → Bool) → (claimsIn pick (new ++ p .events) ≡ claimsIn pick (p .events))
+      × (ticksIn pick (new ++ p .events) ≡ ticksIn pick (p .events))) →
+      Separate (new ++ p .events) →
+      ((i : ℕ) → i < 128 → So (lastIsClaim i (new ++ p .events)) → request (t .requests) i .stage ≡ 2) →
+      Kept t (grown p s t 0 new)
+  unfolding grown rises bitOf
+  carried t new clock counts buckets carries same separate serving = record {
+    at = λ i h. subst
+        (λ (c : Counts). At i (request (t .requests) i) (sourceClaims c i) (sourceWaited c i)
+        (p .rose i + cond (rising (request (s .requests) i) (request (t .requests) i)) 1 0)
+        (cond (rising (request (s .requests) i) (request (t .requests) i)) (t .clock) (p .since i)) (new ++ p .events))
+        (sym counts)
+        (at-carried i (t .clock) (sourceClaims (s .counts) i) (sourceWaited (s .counts) i) (p .rose i) (p .since i)
+        (request (s .requests) i) (request (t .requests) i) (p .events) (new ++ p .events)
+        (f .at i h) (carries i h) (same (ofSource i) .0) (same (ofSource i) .1) (serving i h));
+    bucket = λ k h. (
+      ap (λ (b : Buckets). bucketClaims b k) buckets ∙ f .bucket k h .0 ∙ sym (same (ofBucket k) .0),
+      ap (λ (b : Buckets). bucketTicks b k) buckets ∙ f .bucket k h .1 ∙ sym (same (ofBucket k) .1),
+    );
+    separate = separate;
+    claims = ap boardClaims counts ∙ f .claims ∙ sym (same every .0);
+    waited = ap boardWaited counts ∙ f .waited ∙ sym (same every .1);
+    area = omega (arith, f .area, same every .1, ages);
+  }
+    where
+      ages : boardOpen (t .clock) (t .requests) ≡ boardOpen (s .clock) (s .requests)
+      ages = unfold boardOpen in
+          sum-ext _ _ 128 (λ i h. carries-age (t .clock) (request (s .requests) i) (request (t .requests) i) (carries i h))
+          ∙ ap (λ (x : ℕ). sumTo (λ i. openAge x (request (s .requests) i)) 128) clock
+
+  quiet : (t : State) → t .clock ≡ s .clock → t .requests ≡ s .requests → t .counts ≡ s .counts → t .buckets ≡ s .buckets →
+      Kept t (grown p s t 0 [])
+  quiet t clock requests counts buckets = carried t [] clock counts buckets
+      (λ i h. subst (λ (q : Requests). Carries (t .clock) (request (s .requests) i) (request q i)) (sym requests)
+      (carries-same (t .clock) _ _ refl refl))
+      (λ _. (refl, refl)) (f .separate)
+      (λ i h y. ap (λ (q : Requests). request q i .stage) requests ∙ f .at i h .serving y)
+
+  module _ (sound : Sound s) (m : ℕ) where
+    room : Roomy (s .requests)
+    room = sound .types .requests
+
+    line-kept : (i : ℕ) (v : Bool) → Kept (withSteps (lineChange s i v) m) (grown p s (withSteps (lineChange s i v) m) 0 [])
+    unfolding withSteps lineChange withRequest
+    line-kept i v =
+        let r : Request = request (s .requests) i in
+        let k : Request = lineChanged (kindOf (s .shape) i) (s .clock) v r in
+        let l : Lined (s .clock) r k = lined (s .clock) v r (kindOf (s .shape) i) in
+        carried _ [] refl refl refl (one-carried (s .requests) i k room (s .clock) (l .0)) (λ _. (refl, refl)) (f .separate)
+        (λ j h y. one-stage (s .requests) i k room (λ j. request (s .requests) j .stage ≡ 2) (l .1) (λ _ _ _ e. e) j h (f .at j h .serving y))
+
+    complete-kept : (c v : ℕ) → Kept (withSteps (completeBy s c v) m)
+        (grown p s (withSteps (completeBy s c v) m) 0 (completionEvent s (Claim c) v))
+    unfolding completeBy completionEvent withSteps withRequest
+    complete-kept c v = by-cases (takesEffect s c v) (λ t. takes-effect-iff s c v .0 t .service)
+      where
+        k : Request
+        k = completed (kindOf (s .shape) v) (s .clock) (request (s .requests) v)
+
+        ended : lastIsClaim v (finished v ∷ p .events) ≡ false
+        ended = unfold lastIsClaim in cond-so _ _ (eq-eqb v v refl)
+
+        passed : (j : ℕ) → j ≢ v → lastIsClaim j (finished v ∷ p .events) ≡ lastIsClaim j (p .events)
+        passed j ne = unfold lastIsClaim in cond-not _ _ (ne-eqb v j (λ e. ne (sym e)))
+
+        by-cases : (b : Bool) → (So b → So (isInService (request (s .requests) v))) →
+            Kept (withSteps (cond b (withRequest s v k) s) m)
+            (grown p s (withSteps (cond b (withRequest s v k) s) m) 0 (cond b (finished v ∷ []) []))
+        by-cases true service =
+            carried _ (finished v ∷ []) refl refl refl
+            (one-carried (s .requests) v k room (s .clock) (carries-completed (kindOf (s .shape) v) (s .clock) (request (s .requests) v) (service refl)))
+            (λ _. unfold claimsIn ticksIn in (refl, refl)) (f .separate)
+            (one-stage (s .requests) v k room (λ j. So (lastIsClaim j (finished v ∷ p .events)))
+            (λ y. absurd (not-so ended y))
+            (λ j h ne y. f .at j h .serving (sym (passed j ne) ∙ y)))
+        by-cases false service = quiet _ refl refl refl refl
+
+    -- the clock advances
+    advance-kept : (n : ℕ) → Kept (withSteps (advanced s n) m) (grown p s (withSteps (advanced s n) m) (n * bitsSet s) [])
+    unfolding withSteps advanced withClock grown rises bitOf bitsSet
+    advance-kept n = record {
+      at = λ i h. at-carried i (s .clock + n) (sourceClaims (s .counts) i) (sourceWaited (s .counts) i) (p .rose i) (p .since i)
+          (request (s .requests) i) (request (s .requests) i) (p .events) (p .events)
+          (f .at i h) (carries-same (s .clock + n) _ _ refl refl) refl refl (f .at i h .serving);
+      bucket = f .bucket;
+      separate = f .separate;
+      claims = f .claims;
+      waited = f .waited;
+      area = omega (arith, f .area, later-board (s .clock) n (s .requests) (λ i h. sound .source i h .start));
+    }
+
+    -- a source is claimed
+    module _ (i : ℕ) (h : i < 128) (pending : So (isPending (request (s .requests) i))) where
+      abbrev r : Request
+      r = request (s .requests) i
+
+      abbrev w : ℕ
+      w = wait (s .clock) r
+
+      abbrev es : List Event
+      es = claimed i w ∷ p .events
+
+      inside : bucketOf w < 33
+      unfolding wait
+      inside = omega (arith, bucket-holds w (omega (arith, sound .types .clock)) .exists)
+
+      picked : (pick : ℕ → ℕ → Bool) → So (pick i w) →
+          (claimsIn pick es ≡ claimsIn pick (p .events) + 1) × (ticksIn pick es ≡ ticksIn pick (p .events) + w)
+      unfolding claimsIn ticksIn
+      picked pick t = (omega (arith, cond-so {A = ℕ} {b = pick i w} 1 0 t), omega (arith, cond-so {b = pick i w} w 0 t))
+
+      passed-over : (pick : ℕ → ℕ → Bool) → pick i w ≡ false →
+          (claimsIn pick es ≡ claimsIn pick (p .events)) × (ticksIn pick es ≡ ticksIn pick (p .events))
+      unfolding claimsIn ticksIn
+      passed-over pick t = (omega (arith, cond-not {A = ℕ} {b = pick i w} 1 0 t), omega (arith, cond-not {b = pick i w} w 0 t))
+
+      -- what is kept of a source after the claim, whatever its request is then
+      abbrev AtThen : ℕ → Request → Type 0
+      AtThen j k = At j k (sourceClaims (counted (s .counts) i w) j) (sourceWaited (counted (s .counts) i w) j)
+          (p .rose j + cond (rising (request (s .requests) j) k) 1 0)
+          (cond (rising (request (s .requests) j) k) (s .clock) (p .since j)) es
+
+      own : AtThen i (served r)
+      unfolding served isPending
+      own = record {
+        started = λ t. absurd (not-so refl t);
+        claims = omega (arith, one-more .0, f .at i h .claims, picked (ofSource i) (eq-eqb i i refl) .0);
+        ticks = omega (arith, one-more .1, f .at i h .ticks, picked (ofSource i) (eq-eqb i i refl) .1);
+        rises = omega (arith, f .at i h .rises, cond-so {A = ℕ} {b = isPending r} 1 0 pending, cond-not {A = ℕ} {b = rising r (served r)} 1 0 stays, picked (ofSource i) (eq-eqb i i refl) .0);
+        serving = λ _. refl;
+      }
+        where
+          one-more : (sourceClaims (counted (s .counts) i w) i ≡ sourceClaims (s .counts) i + 1)
+              × (sourceWaited (counted (s .counts) i w) i ≡ sourceWaited (s .counts) i + w)
+          one-more = counted-same (s .counts) i w (omega (arith, sound .types .claims)) (omega (arith, sound .types .waited))
+
+          stays : rising r (served r) ≡ false
+          stays = ap (λ (b : Bool). not b && isPending (served r)) pending
+
+      other : (j : ℕ) → j < 128 → j ≢ i → AtThen j (request (s .requests) j)
+      other j l ne = subst₂
+          (λ (x y : ℕ). At j k x y (p .rose j + cond (rising k k) 1 0) (cond (rising k k) (s .clock) (p .since j)) es)
+          (sym (counted-other (s .counts) i w j ne .0)) (sym (counted-other (s .counts) i w j ne .1))
+          (at-carried j (s .clock) (sourceClaims (s .counts) j) (sourceWaited (s .counts) j) (p .rose j) (p .since j)
+          k k (p .events) es (f .at j l) (carries-same (s .clock) k k refl refl)
+          (passed-over (ofSource j) differs .0) (passed-over (ofSource j) differs .1)
+          (λ y. f .at j l .serving (sym before ∙ y)))
+        where
+          k : Request
+          k = request (s .requests) j
+
+          differs : eqb i j ≡ false
+          differs = ne-eqb i j (λ e. ne (sym e))
+
+          before : lastIsClaim j es ≡ lastIsClaim j (p .events)
+          before = unfold lastIsClaim in cond-not _ _ differs
+
+      claim-of-kept : Kept (withSteps (claimOf s i) m) (grown p s (withSteps (claimOf s i) m) 0 (claimed i w ∷ []))
+      unfolding withSteps claimOf withCounts withRequest grown rises bitOf
+      claim-of-kept = record {
+        at = λ j. same-or-other (λ j. j < 128 → AtThen j (request (setRequest (s .requests) i (served r)) j)) i j
+            (λ l. subst (AtThen i) (sym (request-same (s .requests) i (served r) room l)) own)
+            (λ ne l. subst (AtThen j) (sym (request-other (s .requests) i (served r) j ne)) (other j l ne));
+        bucket = λ k. same-or-other
+            (λ k. k < 33 → (bucketClaims (booked (s .buckets) w) k ≡ claimsIn (ofBucket k) es)
+            × (bucketTicks (booked (s .buckets) w) k ≡ ticksIn (ofBucket k) es)) (bucketOf w) k
+            (λ l. (
+              omega (arith, one-more .0, f .bucket (bucketOf w) l .0, picked (ofBucket (bucketOf w)) (eq-eqb (bucketOf w) (bucketOf w) refl) .0),
+              omega (arith, one-more .1, f .bucket (bucketOf w) l .1, picked (ofBucket (bucketOf w)) (eq-eqb (bucketOf w) (bucketOf w) refl) .1),
+            ))
+            (λ ne l.
+            let differs : eqb (bucketOf w) k ≡ false = ne-eqb (bucketOf w) k (λ e. ne (sym e)) in
+            let rest = booked-other (s .buckets) w inside k ne in (
+              rest .0 ∙ f .bucket k l .0 ∙ sym (passed-over (ofBucket k) differs .0),
+              rest .1 ∙ f .bucket k l .1 ∙ sym (passed-over (ofBucket k) differs .1),
+            ));
+        separate = (so-not (lastIsClaim i (p .events)) (λ y. absurd (omega (arith, f .at i h .serving y, stage-one))), f .separate);
+        claims = omega (arith, sums .0, f .claims, picked every refl .0);
+        waited = omega (arith, sums .1, f .waited, picked every refl .1);
+        area = omega (arith, f .area, picked every refl .1, ages);
+      }
+        where
+          one-more : (bucketClaims (booked (s .buckets) w) (bucketOf w) ≡ bucketClaims (s .buckets) (bucketOf w) + 1)
+              × (bucketTicks (booked (s .buckets) w) (bucketOf w) ≡ bucketTicks (s .buckets) (bucketOf w) + w)
+          one-more = booked-same (s .buckets) w inside (sound .types .bucketClaims) (sound .types .bucketTicks)
+
+          sums : (boardClaims (counted (s .counts) i w) ≡ boardClaims (s .counts) + 1)
+              × (boardWaited (counted (s .counts) i w) ≡ boardWaited (s .counts) + w)
+          sums = counted-sums (s .counts) i w h (sound .types .claims) (sound .types .waited)
+
+          stage-one : r .stage ≡ 1
+          stage-one = eqb-true (r .stage) 1 (unfold isPending in pending)
+
+          open-was : openAge (s .clock) r ≡ w
+          open-was = unfold openAge wait in cond-so _ _ pending
+
+          open-is : openAge (s .clock) (served r) ≡ 0
+          open-is = unfold openAge isPending served in refl
+
+          ages : boardOpen (s .clock) (setRequest (s .requests) i (served r)) + w ≡ boardOpen (s .clock) (s .requests)
+          ages = unfold boardOpen in omega (arith, request-sum (s .requests) i (served r) room (openAge (s .clock)) h, open-was, open-is)
+
+      -- the wait booked is the one that the run tells
+      told-kept : Kept (withSteps (claimOf s i) m) (grown p s (withSteps (claimOf s i) m) 0 (claimed i (s .clock - p .since i) ∷ []))
+      told-kept = subst (λ (x : ℕ). Kept (withSteps (claimOf s i) m) (grown p s (withSteps (claimOf s i) m) 0 (claimed i x ∷ [])))
+          same-wait claim-of-kept
+        where
+          same-wait : w ≡ s .clock - p .since i
+          same-wait = unfold wait in ap (λ (x : ℕ). s .clock - x) (f .at i h .started pending)
+
+    -- a step that changes nothing but the count
+    counted-step : Kept (withSteps s m) (grown p s (withSteps s m) 0 [])
+    unfolding withSteps
+    counted-step = quiet _ refl refl refl refl
+
+    claim-kept : (c : ℕ) → Kept (withSteps (claimBy s c) m)
+        (grown p s (withSteps (claimBy s c) m) 0 (claimEvent (Claim c) (winner s c) (s .clock - p .since (winner s c))))
+    unfolding claimBy claimEvent
+    claim-kept c = by-cases (eqb (winner s c) 0) (λ t.
+        let own = winner-is s c .some (eqb-false (winner s c) 0 t) .0 in
+        told-kept (winner s c)
+        (omega (arith, source-range (s .shape .sources) (winner s c) (own .source) .1, sound .limits .sources .1)) (own .pending))
+      where
+        by-cases : (b : Bool) → (b ≡ false → Kept (withSteps (claimOf s (winner s c)) m)
+            (grown p s (withSteps (claimOf s (winner s c)) m) 0 (claimed (winner s c) (s .clock - p .since (winner s c)) ∷ []))) →
+            Kept (withSteps (cond b s (claimOf s (winner s c))) m)
+            (grown p s (withSteps (cond b s (claimOf s (winner s c))) m) 0
+            (cond b [] (claimed (winner s c) (s .clock - p .since (winner s c)) ∷ [])))
+        by-cases true _ = counted-step
+        by-cases false k = k refl
+
+    read-kept : (r : Register) → Kept (withSteps (afterRead s r) m)
+        (grown p s (withSteps (afterRead s r) m) 0 (claimEvent r (readOf s r) (s .clock - p .since (readOf s r))))
+    unfolding afterRead readOf claimEvent
+    read-kept (Priority i) = counted-step
+    read-kept (Pending k) = counted-step
+    read-kept (Enable c k) = counted-step
+    read-kept (Threshold c) = counted-step
+    read-kept (Claim c) = claim-kept c
+    read-kept Nothing = counted-step
+
+    write-kept : (r : Register) (v : ℕ) → Kept (withSteps (afterWrite s r v) m)
+        (grown p s (withSteps (afterWrite s r v) m) 0 (completionEvent s r v))
+    unfolding afterWrite completionEvent withSteps withPriority withEnable withThreshold withSettings
+    write-kept (Priority i) v = quiet _ refl refl refl refl
+    write-kept (Pending k) v = quiet _ refl refl refl refl
+    write-kept (Enable c k) v = quiet _ refl refl refl refl
+    write-kept (Threshold c) v = quiet _ refl refl refl refl
+    write-kept (Claim c) v = complete-kept c v
+    write-kept Nothing v = quiet _ refl refl refl refl
+
+  module _ (sound : Sound s) where
+    unmoved : Kept s (grown p s s 0 [])
+    unmoved = quiet s refl refl refl refl
+
+    accepted-kept : (a : Call) →
+        Kept (after a s) (grown p s (after a s) (swept a s) (happened a s (getD (valuesOf a s) 0 0) (p .since)))
+    unfolding after isStep effect swept happened valuesOf
+    accepted-kept (line i v) = line-kept sound (s .steps + 1) i v
+    accepted-kept (advance n) = advance-kept sound (s .steps + 1) n
+    accepted-kept (read off) = read-kept sound (s .steps + 1) (decode (s .shape .sources) (s .shape .contexts) off)
+    accepted-kept (write off v) = write-kept sound (s .steps + 1) (decode (s .shape .sources) (s .shape .contexts) off) v
+    accepted-kept (notification c) = unmoved
+    accepted-kept mean = unmoved
+    accepted-kept (byClaim q) = unmoved
+    accepted-kept (byTime q) = unmoved
+    accepted-kept totals = unmoved
+
+    respond-kept : (a : Call) → Kept (respond a s .state) (noted p a s (respond a s))
+    unfolding respond noted
+    respond-kept a = by-cases (eqb (firstOf (grounds a s)) 0)
+      where
+        by-cases : (b : Bool) → Kept (cond b (after a s) s) (grown p s (cond b (after a s) s) (cond b (swept a s) 0)
+            (cond b (happened a s (getD (cond b (valuesOf a s) (replicate (length (valuesOf a s)) 0)) 0 0) (p .since)) []))
+        by-cases true = accepted-kept a
+        by-cases false = unmoved
+
+  -- the stored ages are those that the run tells
+  told-ages : boardOpen (s .clock) (s .requests) ≡ agesOpen s p
+  unfolding boardOpen agesOpen bitOf openAge
+  told-ages = sum-ext _ _ 128 (λ i h. same-age (isPending (request (s .requests) i)) _ _ (f .at i h .started))
+    where
+      same-age : (b : Bool) (x y : ℕ) → (So b → x ≡ y) → cond b (s .clock - x) 0 ≡ cond b (s .clock - y) 0
+      same-age true x y e = ap (λ (z : ℕ). s .clock - z) (e refl)
+      same-age false x y e = refl
+
+  kept-accounted : Sound s → Accounted s p
+  unfolding bitOf
+  kept-accounted sound = record {
+    area = f .area ∙ ap (λ (x : ℕ). ticksIn every (p .events) + x) told-ages;
+    sourceClaims = λ i h. f .at i h .claims;
+    sourceTicks = λ i h. f .at i h .ticks;
+    bucketClaims = λ k h. f .bucket k h .0;
+    bucketTicks = λ k h. f .bucket k h .1;
+    rises = λ i h. f .at i h .rises;
+    separate = f .separate;
+    sound = sound;
+    claims = f .claims;
+    waited = f .waited;
+    openAges = told-ages;
+  }
+
+-- a fresh state has nothing to account for
+fresh-kept : (h : Shape) → Kept (freshIn h) (past (freshIn h) [])
+unfolding freshIn past claimsIn ticksIn lastIsClaim
+fresh-kept h = record {
+  at = λ i l. record {
+    started = λ _. unfold request in getD-replicate 128 i 0 0 l;
+    claims = unfold sourceClaims in getD-replicate 128 i 0 0 l;
+    ticks = unfold sourceWaited in getD-replicate 128 i 0 0 l;
+    rises = omega (arith, cond-not {A = ℕ} {b = isPending (request (freshIn h .requests) i)} 1 0 (idle i l));
+    serving = λ t. absurd (not-so refl t);
+  };
+  bucket = λ k l. unfold bucketClaims bucketTicks in (getD-replicate 33 k 0 0 l, getD-replicate 33 k 0 0 l);
+  separate = tt;
+  claims = unfold boardClaims sourceClaims in sum-zero _ 128 (λ i l. getD-replicate 128 i 0 0 l);
+  waited = unfold boardWaited sourceWaited in sum-zero _ 128 (λ i l. getD-replicate 128 i 0 0 l);
+  area = omega (arith, ageless);
+}
+  where
+    idle : (i : ℕ) → i < 128 → isPending (request (freshIn h .requests) i) ≡ false
+    idle i l = unfold isPending request freshIn in ap (λ (x : ℕ). eqb x 1) (getD-replicate 128 i 0 0 l)
+
+    ageless : boardOpen (freshIn h .clock) (freshIn h .requests) ≡ 0
+    ageless = unfold boardOpen openAge in sum-zero _ 128 (λ i l. cond-not _ _ (idle i l))
+
+module _ (h : Shape) (sound : Sound (freshIn h)) where
+  run-sound : (calls : List Call) → Sound (run (freshIn h) calls)
+  unfolding run
+  run-sound [] = sound
+  run-sound (a ∷ earlier) = stays-sound (run (freshIn h) earlier) a (run-sound earlier)
+
+  run-kept : (calls : List Call) → Kept (run (freshIn h) calls) (past (freshIn h) calls)
+  unfolding run past
+  run-kept [] = fresh-kept h
+  run-kept (a ∷ earlier) = respond-kept (run (freshIn h) earlier) (past (freshIn h) earlier) (run-kept earlier) (run-sound earlier) a
+
+-- Demand 3: "Over any run of calls from a fresh state, .. the total equals .."
+pub accounted : (n c b : ℕ) (kinds : List ℕ) → make n c b kinds .number ≡ 0 → (calls : List Call) →
+    Accounted (run (make n c b kinds .state) calls) (past (make n c b kinds .state) calls)
+accounted n c b kinds e calls =
+    let made = made-sound n c b kinds e in
+    subst (λ (s : State). Accounted (run s calls) (past s calls)) (sym (made .0))
+    (kept-accounted (run (freshIn (shapeOf n c b kinds)) calls) (past (freshIn (shapeOf n c b kinds)) calls)
+    (run-kept (shapeOf n c b kinds) (subst Sound (made .0) (made .1)) calls)
+    (run-sound (shapeOf n c b kinds) (subst Sound (made .0) (made .1)) calls))
