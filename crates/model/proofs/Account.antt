@@ -1,7 +1,7 @@
 -- Demand 3, proved: every run from a fresh state is accounted for to the tick.
 -- Each call is a change of one of three forms: no wait ends and no tick passes, the clock advances, or a source is claimed.
 -- Assumes nothing.
-use mathlib.Core.Path.{_≡_, _∙_, refl, sym, ap, subst, subst₂}
+use mathlib.Core.Path.{_≡_, _∙_, refl, sym, ap, ap₂, subst, subst₂}
 use mathlib.Core.Bool.{Bool, true, false, not, cond, _&&_, So}
 use mathlib.Core.Logic.{_⊎_, ⊎-elim, _≢_}
 use mathlib.Core.List.{List, [], _∷_, _++_}
@@ -28,7 +28,7 @@ use Rattle.model.specs.Registers.{decode, readOf, afterRead, afterWrite,
 use Rattle.model.specs.Sound.{Roomy, Sound}
 use Rattle.model.specs.Calls.{Call, line, advance, read, write, notification, mean, byClaim, byTime, totals, isStep, grounds, valuesOf, effect, after, respond, make}
 use Rattle.model.specs.Refusals.{firstOf}
-use Rattle.model.specs.Run.{run, bitOf, bitsSet, Event, claimed, finished, Past, swept, claimEvent, completionEvent, happened, rises, grown, noted, past, claimsIn, ticksIn, every, ofSource, ofBucket, lastIsClaim, Separate, agesOpen, Accounted}
+use Rattle.model.specs.Run.{run, bitOf, bitsSet, Event, claimed, finished, Past, swept, atClaim, claimEvent, completionEvent, happened, rises, grown, noted, past, claimsIn, ticksIn, every, ofSource, ofBucket, lastIsClaim, Separate, agesOpen, Accounted}
 use Rattle.model.proofs.Board.{request-same, request-other, request-sum}
 use Rattle.model.proofs.Claim.{source-range, winner-is}
 use Rattle.model.proofs.Life.{takes-effect-iff}
@@ -251,7 +251,7 @@ module _ (s : State) (p : Past) (f : Kept s p) where
         (λ j h y. one-stage (s .requests) i k room (λ j. request (s .requests) j .stage ≡ 2) (l .1) (λ _ _ _ e. e) j h (f .at j h .serving y))
 
     complete-kept : (c v : ℕ) → Kept (withSteps (completeBy s c v) m)
-        (grown p s (withSteps (completeBy s c v) m) 0 (completionEvent s (Claim c) v))
+        (grown p s (withSteps (completeBy s c v) m) 0 (completionEvent s v c))
     unfolding completeBy completionEvent withSteps withRequest
     complete-kept c v = by-cases (takesEffect s c v) (λ t. takes-effect-iff s c v .0 t .service)
       where
@@ -415,7 +415,7 @@ module _ (s : State) (p : Past) (f : Kept s p) where
     counted-step = quiet _ refl refl refl refl
 
     claim-kept : (c : ℕ) → Kept (withSteps (claimBy s c) m)
-        (grown p s (withSteps (claimBy s c) m) 0 (claimEvent (Claim c) (winner s c) (s .clock - p .since (winner s c))))
+        (grown p s (withSteps (claimBy s c) m) 0 (claimEvent s (p .since) (winner s c)))
     unfolding claimBy claimEvent
     claim-kept c = by-cases (eqb (winner s c) 0) (λ t.
         let own = winner-is s c .some (eqb-false (winner s c) 0 t) .0 in
@@ -431,8 +431,8 @@ module _ (s : State) (p : Past) (f : Kept s p) where
         by-cases false k = k refl
 
     read-kept : (r : Register) → Kept (withSteps (afterRead s r) m)
-        (grown p s (withSteps (afterRead s r) m) 0 (claimEvent r (readOf s r) (s .clock - p .since (readOf s r))))
-    unfolding afterRead readOf claimEvent
+        (grown p s (withSteps (afterRead s r) m) 0 (atClaim r (λ c. claimEvent s (p .since) (readOf s r))))
+    unfolding afterRead readOf atClaim
     read-kept (Priority i) = counted-step
     read-kept (Pending k) = counted-step
     read-kept (Enable c k) = counted-step
@@ -441,8 +441,8 @@ module _ (s : State) (p : Past) (f : Kept s p) where
     read-kept Nothing = counted-step
 
     write-kept : (r : Register) (v : ℕ) → Kept (withSteps (afterWrite s r v) m)
-        (grown p s (withSteps (afterWrite s r v) m) 0 (completionEvent s r v))
-    unfolding afterWrite completionEvent withSteps withPriority withEnable withThreshold withSettings
+        (grown p s (withSteps (afterWrite s r v) m) 0 (atClaim r (completionEvent s v)))
+    unfolding afterWrite atClaim withSteps withPriority withEnable withThreshold withSettings
     write-kept (Priority i) v = quiet _ refl refl refl refl
     write-kept (Pending k) v = quiet _ refl refl refl refl
     write-kept (Enable c k) v = quiet _ refl refl refl refl
@@ -486,7 +486,7 @@ module _ (s : State) (p : Past) (f : Kept s p) where
       same-age false x y e = refl
 
   kept-accounted : Sound s → Accounted s p
-  unfolding bitOf
+  unfolding bitOf valuesOf
   kept-accounted sound = record {
     area = f .area ∙ ap (λ (x : ℕ). ticksIn every (p .events) + x) told-ages;
     sourceClaims = λ i h. f .at i h .claims;
@@ -496,9 +496,9 @@ module _ (s : State) (p : Past) (f : Kept s p) where
     rises = λ i h. f .at i h .rises;
     separate = f .separate;
     sound = sound;
-    claims = f .claims;
-    waited = f .waited;
-    openAges = told-ages;
+    mean = ap₂ (λ (x y : ℕ). x ∷ y ∷ []) (f .waited) (f .claims);
+    totals = ap₂ (λ (x y : ℕ). s .clock ∷ x ∷ y ∷ boardOpen (s .clock) (s .requests) ∷ []) (f .claims) (f .waited)
+        ∙ ap (λ (x : ℕ). s .clock ∷ claimsIn every (p .events) ∷ ticksIn every (p .events) ∷ x ∷ []) told-ages;
   }
 
 -- a fresh state has nothing to account for

@@ -13,11 +13,11 @@ use Rattle.model.specs.declared.Register.{Register}
 use Rattle.model.specs.declared.Register.the-variants.{Priority, Pending, Enable, Threshold, Claim, Nothing}
 use Rattle.model.specs.Board.{request}
 use Rattle.model.specs.Refusals.{Outcome}
-use Rattle.model.specs.Waits.{isPending, bucketOf, sourceClaims, sourceWaited, boardClaims, boardWaited, boardOpen, bucketClaims, bucketTicks}
+use Rattle.model.specs.Waits.{isPending, bucketOf, sourceClaims, sourceWaited, bucketClaims, bucketTicks}
 use Rattle.model.specs.Life.{takesEffect}
 use Rattle.model.specs.Registers.{decode}
 use Rattle.model.specs.Sound.{Sound}
-use Rattle.model.specs.Calls.{Call, line, advance, read, write, notification, mean, byClaim, byTime, totals, respond}
+use Rattle.model.specs.Calls.{Call, line, advance, read, write, notification, mean, byClaim, byTime, totals, valuesOf, respond}
 
 -- "Over any run of calls from a fresh state, each on the state the last returned and refused ones among them": the last call first
 unfoldable pub run : State → List Call → State
@@ -55,33 +55,32 @@ swept (byClaim p) s = 0
 swept (byTime p) s = 0
 swept totals s = 0
 
--- a read of a claim register that gives a source, and a write to one that takes effect
-unfoldable pub claimEvent : Register → ℕ → ℕ → List Event
-claimEvent (Priority i) v w = []
-claimEvent (Pending k) v w = []
-claimEvent (Enable c k) v w = []
-claimEvent (Threshold c) v w = []
-claimEvent (Claim c) v w = cond (eqb v 0) [] (claimed v w ∷ [])
-claimEvent Nothing v w = []
+-- what a read or a write does at a claim register, of context c; at any other, nothing
+unfoldable pub atClaim : Register → (ℕ → List Event) → List Event
+atClaim (Priority i) f = []
+atClaim (Pending k) f = []
+atClaim (Enable c k) f = []
+atClaim (Threshold c) f = []
+atClaim (Claim c) f = f c
+atClaim Nothing f = []
 
-unfoldable pub completionEvent : State → Register → ℕ → List Event
-completionEvent s (Priority i) v = []
-completionEvent s (Pending k) v = []
-completionEvent s (Enable c k) v = []
-completionEvent s (Threshold c) v = []
-completionEvent s (Claim c) v = cond (takesEffect s c v) (finished v ∷ []) []
-completionEvent s Nothing v = []
+-- a claim's answer, if it is not 0, with its wait: the clock then less the clock at the source's last rise; and a completion
+unfoldable pub claimEvent : State → (ℕ → ℕ) → ℕ → List Event
+claimEvent s since answer = cond (eqb answer 0) [] (claimed answer (s .clock - since answer) ∷ [])
+
+unfoldable pub completionEvent : State → ℕ → ℕ → List Event
+completionEvent s v c = cond (takesEffect s c v) (finished v ∷ []) []
 
 unfoldable pub happened : Call → State → ℕ → (ℕ → ℕ) → List Event
-happened (line i v) s value since = []
-happened (advance n) s value since = []
-happened (read off) s value since = claimEvent (decode (s .shape .sources) (s .shape .contexts) off) value (s .clock - since value)
-happened (write off v) s value since = completionEvent s (decode (s .shape .sources) (s .shape .contexts) off) v
-happened (notification c) s value since = []
-happened mean s value since = []
-happened (byClaim p) s value since = []
-happened (byTime p) s value since = []
-happened totals s value since = []
+happened (line i v) s answer since = []
+happened (advance n) s answer since = []
+happened (read off) s answer since = atClaim (decode (s .shape .sources) (s .shape .contexts) off) (λ c. claimEvent s since answer)
+happened (write off v) s answer since = atClaim (decode (s .shape .sources) (s .shape .contexts) off) (completionEvent s v)
+happened (notification c) s answer since = []
+happened mean s answer since = []
+happened (byClaim p) s answer since = []
+happened (byTime p) s answer since = []
+happened totals s answer since = []
 
 -- a pending bit rises in a call
 unfoldable pub rises : State → State → ℕ → Bool
@@ -154,8 +153,7 @@ pub record Accounted (s : State) (p : Past) : Type 0 where
   pub rises : (i : ℕ) → i < 128 → p .rose i ≡ claimsIn (ofSource i) (p .events) + cond (bitOf s i) 1 0
   -- "Between two claims of one source lies a completion that took effect."
   pub separate : Separate (p .events)
-  -- every state is sound, and the reports are the log's own number and sum
+  -- every state is sound, and what the mean report and the totals give is the log's own number and sum
   pub sound : Sound s
-  pub claims : boardClaims (s .counts) ≡ claimsIn every (p .events)
-  pub waited : boardWaited (s .counts) ≡ ticksIn every (p .events)
-  pub openAges : boardOpen (s .clock) (s .requests) ≡ agesOpen s p
+  pub mean : valuesOf mean s ≡ ticksIn every (p .events) ∷ claimsIn every (p .events) ∷ []
+  pub totals : valuesOf totals s ≡ s .clock ∷ claimsIn every (p .events) ∷ ticksIn every (p .events) ∷ agesOpen s p ∷ []
