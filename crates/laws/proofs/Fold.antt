@@ -9,8 +9,8 @@ use Prim.Native.Nat.{ℕ, zero, suc, _+_, _*_, _<_, _≤_}
 use native.Mathlib.Nat.{mul-zero, mul-add, not-suc-le-zero, eq-or-lt-of-le, le-of-suc-le-suc, le-refl, le-of-eq, lt-irrefl, le-antisymm}
 use native.Mathlib.Numerals.{add-one}
 use native.Mathlib.Omega.{arith}
-use lib.Dec.{ltb}
-use borrow.Author.Tests.{ltb-true, ltb-false}
+use lib.Dec.{ltb, eqb}
+use borrow.Author.Tests.{ltb-true, ltb-false, eqb-true, eqb-false}
 use Rattle.laws.specs.Fold.{sumTo, allTo, allOf, anyTo, firstTo, best, First, Best}
 use Rattle.laws.proofs.Truth.{dichotomy, not-so, so-not, and-intro, and-left, and-right, or-left, or-right, or-cases, cond-so, cond-not}
 
@@ -67,6 +67,11 @@ pub sum-scale : (m : ℕ) (f : ℕ → ℕ) (n : ℕ) → sumTo (λ i. m * f i) 
 unfolding sumTo
 sum-scale m f zero = sym (mul-zero m)
 sum-scale m f (suc n) = ap (λ (x : ℕ). x + m * f n) (sum-scale m f n) ∙ sym (mul-add m (sumTo f n) (f n))
+
+-- an index is the one that changed, or another
+pub same-or-other : (P : ℕ → Type 0) (i j : ℕ) → P i → (j ≢ i → P j) → P j
+same-or-other P i j p f =
+    ⊎-elim (λ (t : So (eqb j i)). subst P (sym (eqb-true j i t)) p) (λ t. f (eqb-false j i t)) (dichotomy (eqb j i))
 
 -- where f and g differ at i alone, their sums differ by as much
 pub sum-change : (f g : ℕ → ℕ) (n i : ℕ) → i < n → ((j : ℕ) → j ≢ i → f j ≡ g j) → sumTo g n + f i ≡ sumTo f n + g i

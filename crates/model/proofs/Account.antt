@@ -1,4 +1,5 @@
--- Demand 3, proved: every run from a fresh state is accounted for to the tick.
+-- Demand 3, call by call: what a state holds agrees with what the run tells, and goes on doing so.
+-- It stands on the definitions and on no law about soundness being kept, so that a wrong definition is refused here first.
 -- Each call is a change of one of three forms: no wait ends and no tick passes, the clock advances, or a source is claimed.
 -- Assumes nothing.
 use mathlib.Core.Path.{_≡_, _∙_, refl, sym, ap, ap₂, subst, subst₂}
@@ -8,13 +9,13 @@ use mathlib.Core.List.{List, [], _∷_, _++_}
 use Prim.Native.Nat.{ℕ, zero, suc, _+_, _-_, _*_, _≤_, _<_}
 use native.Mathlib.Omega.{arith}
 use lib.Dec.{ltb, eqb}
-use lib.ListN.{length, getD, replicate, getD-replicate}
+use lib.ListN.{length, getD, replicate}
+use lib.Seq.{getD-set-same, getD-set-other}
 use borrow.Author.Tests.{eqb-true, eqb-false, eq-eqb, ne-eqb}
 use Rattle.laws.specs.Fold.{sumTo}
 use Rattle.laws.proofs.Truth.{dichotomy, not-so, so-not, and-left, cond-so, cond-not, cond-elim}
-use Rattle.laws.proofs.Fold.{sum-ext, sum-add, sum-scale, sum-zero}
+use Rattle.laws.proofs.Fold.{test-at, same-or-other, sum-ext, sum-add, sum-scale}
 use Rattle.model.specs.declared.State.{State}
-use Rattle.model.specs.declared.Shape.{Shape}
 use Rattle.model.specs.declared.Request.{Request}
 use Rattle.model.specs.declared.Requests.{Requests}
 use Rattle.model.specs.declared.Counts.{Counts}
@@ -31,12 +32,8 @@ use Rattle.model.specs.Refusals.{firstOf}
 use Rattle.model.specs.Run.{run, bitOf, bitsSet, Event, claimed, finished, Past, swept, atClaim, claimEvent, completionEvent, happened, rises, grown, noted, past, claimsIn, ticksIn, every, ofSource, ofBucket, lastIsClaim, Separate, agesOpen, Accounted}
 use Rattle.model.proofs.Board.{request-same, request-other, request-sum}
 use Rattle.model.proofs.Claim.{source-range, winner-is}
-use Rattle.model.proofs.Life.{takes-effect-iff}
 use Rattle.model.proofs.Waits.{bucket-holds}
-use Rattle.model.proofs.Change.{same-or-other}
-use Rattle.model.proofs.Tallies.{counted-same, counted-other, counted-sums, booked-same, booked-other}
-use Rattle.model.proofs.Calls.{stays-sound}
-use Rattle.model.proofs.Make.{made-sound}
+use Rattle.model.proofs.Tallies.{counted-same, counted-other, counted-sums}
 
 -- a request is in one stage
 pending-not-idle : (r : Request) → So (isIdle r) → isPending r ≡ false
@@ -119,12 +116,12 @@ carries-completed kind clock r t =
 
 -- what is kept of one source: its stored start is its last rise, its counts are those of its claims, and it is in service if
 -- its last event is a claim
-record At (i : ℕ) (r : Request) (count sum rose since : ℕ) (es : List Event) : Type 0 where
-  started : So (isPending r) → r .start ≡ since
-  claims : count ≡ claimsIn (ofSource i) es
-  ticks : sum ≡ ticksIn (ofSource i) es
-  rises : rose ≡ claimsIn (ofSource i) es + cond (isPending r) 1 0
-  serving : So (lastIsClaim i es) → r .stage ≡ 2
+pub record At (i : ℕ) (r : Request) (count sum rose since : ℕ) (es : List Event) : Type 0 where
+  pub started : So (isPending r) → r .start ≡ since
+  pub claims : count ≡ claimsIn (ofSource i) es
+  pub ticks : sum ≡ ticksIn (ofSource i) es
+  pub rises : rose ≡ claimsIn (ofSource i) es + cond (isPending r) 1 0
+  pub serving : So (lastIsClaim i es) → r .stage ≡ 2
 
 -- its rise, as a run tells it
 abbrev rising : Request → Request → Bool
@@ -154,16 +151,32 @@ at-carried i clock count sum rose since r k es fs f g same-claims same-ticks ser
     more false true e kept = omega (arith, same-claims)
     more false false e kept = omega (arith, same-claims)
 
--- what every call keeps; the account follows from it
-record Kept (s : State) (p : Past) : Type 0 where
-  at : (i : ℕ) → i < 128 →
+-- what the state holds agrees with the log; the account follows from it
+pub record Logged (s : State) (p : Past) : Type 0 where
+  pub at : (i : ℕ) → i < 128 →
       At i (request (s .requests) i) (sourceClaims (s .counts) i) (sourceWaited (s .counts) i) (p .rose i) (p .since i) (p .events)
-  bucket : (k : ℕ) → k < 33 →
+  pub bucket : (k : ℕ) → k < 33 →
       (bucketClaims (s .buckets) k ≡ claimsIn (ofBucket k) (p .events)) × (bucketTicks (s .buckets) k ≡ ticksIn (ofBucket k) (p .events))
-  separate : Separate (p .events)
-  claims : boardClaims (s .counts) ≡ claimsIn every (p .events)
-  waited : boardWaited (s .counts) ≡ ticksIn every (p .events)
-  area : p .area ≡ ticksIn every (p .events) + boardOpen (s .clock) (s .requests)
+  pub separate : Separate (p .events)
+  pub claims : boardClaims (s .counts) ≡ claimsIn every (p .events)
+  pub waited : boardWaited (s .counts) ≡ ticksIn every (p .events)
+  pub area : p .area ≡ ticksIn every (p .events) + boardOpen (s .clock) (s .requests)
+
+-- a wait booked with its bucket: what the bucket then holds, and that no other changes
+module _ (b : Buckets) (w : ℕ) where
+  booked-same : bucketOf w < 33 → length (b .claims) ≡ 33 → length (b .ticks) ≡ 33 →
+      (bucketClaims (booked b w) (bucketOf w) ≡ bucketClaims b (bucketOf w) + 1)
+      × (bucketTicks (booked b w) (bucketOf w) ≡ bucketTicks b (bucketOf w) + w)
+  unfolding booked bucketClaims bucketTicks
+  booked-same h c t = (
+    getD-set-same (b .claims) (bucketOf w) _ 0 (omega (arith, c)),
+    getD-set-same (b .ticks) (bucketOf w) _ 0 (omega (arith, t)),
+  )
+
+  booked-other : (k : ℕ) → k ≢ bucketOf w →
+      (bucketClaims (booked b w) k ≡ bucketClaims b k) × (bucketTicks (booked b w) k ≡ bucketTicks b k)
+  unfolding booked bucketClaims bucketTicks
+  booked-other k ne = (getD-set-other (b .claims) (bucketOf w) k _ 0 ne, getD-set-other (b .ticks) (bucketOf w) k _ 0 ne)
 
 -- n ticks later an open request is n ticks older
 later-open : (clock n : ℕ) (r : Request) → r .start ≤ clock → openAge (clock + n) r ≡ openAge clock r + n * cond (isPending r) 1 0
@@ -195,7 +208,7 @@ module _ (q : Requests) (i : ℕ) (r : Request) (room : Roomy q) where
       (λ h y. ap (λ (k : Request). k .stage) (request-same q i r room h) ∙ own y)
       (λ ne h y. ap (λ (k : Request). k .stage) (request-other q i r j ne) ∙ others j h ne y)
 
-module _ (s : State) (p : Past) (f : Kept s p) where
+module _ (s : State) (p : Past) (f : Logged s p) where
   -- no wait ends and no tick passes
   carried : (t : State) (new : List Event) → t .clock ≡ s .clock → t .counts ≡ s .counts → t .buckets ≡ s .buckets →
       ((i : ℕ) → i < 128 → Carries (t .clock) (request (s .requests) i) (request (t .requests) i)) →
@@ -203,7 +216,7 @@ module _ (s : State) (p : Past) (f : Kept s p) where
       × (ticksIn pick (new ++ p .events) ≡ ticksIn pick (p .events))) →
       Separate (new ++ p .events) →
       ((i : ℕ) → i < 128 → So (lastIsClaim i (new ++ p .events)) → request (t .requests) i .stage ≡ 2) →
-      Kept t (grown p s t 0 new)
+      Logged t (grown p s t 0 new)
   unfolding grown rises bitOf
   carried t new clock counts buckets carries same separate serving = record {
     at = λ i h. subst
@@ -230,7 +243,7 @@ module _ (s : State) (p : Past) (f : Kept s p) where
           ∙ ap (λ (x : ℕ). sumTo (λ i. openAge x (request (s .requests) i)) 128) clock
 
   quiet : (t : State) → t .clock ≡ s .clock → t .requests ≡ s .requests → t .counts ≡ s .counts → t .buckets ≡ s .buckets →
-      Kept t (grown p s t 0 [])
+      Logged t (grown p s t 0 [])
   quiet t clock requests counts buckets = carried t [] clock counts buckets
       (λ i h. subst (λ (q : Requests). Carries (t .clock) (request (s .requests) i) (request q i)) (sym requests)
       (carries-same (t .clock) _ _ refl refl))
@@ -241,22 +254,25 @@ module _ (s : State) (p : Past) (f : Kept s p) where
     room : Roomy (s .requests)
     room = sound .types .requests
 
-    line-kept : (i : ℕ) (v : Bool) → Kept (withSteps (lineChange s i v) m) (grown p s (withSteps (lineChange s i v) m) 0 [])
+    line-logged : (i : ℕ) (v : Bool) → Logged (withSteps (lineChange s i v) m) (grown p s (withSteps (lineChange s i v) m) 0 [])
     unfolding withSteps lineChange withRequest
-    line-kept i v =
+    line-logged i v =
         let r : Request = request (s .requests) i in
         let k : Request = lineChanged (kindOf (s .shape) i) (s .clock) v r in
         let l : Lined (s .clock) r k = lined (s .clock) v r (kindOf (s .shape) i) in
         carried _ [] refl refl refl (one-carried (s .requests) i k room (s .clock) (l .0)) (λ _. (refl, refl)) (f .separate)
         (λ j h y. one-stage (s .requests) i k room (λ j. request (s .requests) j .stage ≡ 2) (l .1) (λ _ _ _ e. e) j h (f .at j h .serving y))
 
-    complete-kept : (c v : ℕ) → Kept (withSteps (completeBy s c v) m)
+    complete-logged : (c v : ℕ) → Logged (withSteps (completeBy s c v) m)
         (grown p s (withSteps (completeBy s c v) m) 0 (completionEvent s v c))
     unfolding completeBy completionEvent withSteps withRequest
-    complete-kept c v = by-cases (takesEffect s c v) (λ t. takes-effect-iff s c v .0 t .service)
+    complete-logged c v = by-cases (takesEffect s c v) in-service
       where
         k : Request
         k = completed (kindOf (s .shape) v) (s .clock) (request (s .requests) v)
+
+        in-service : So (takesEffect s c v) → So (isInService (request (s .requests) v))
+        in-service = unfold takesEffect in λ t. test-at _ t 2
 
         ended : lastIsClaim v (finished v ∷ p .events) ≡ false
         ended = unfold lastIsClaim in cond-so _ _ (eq-eqb v v refl)
@@ -265,7 +281,7 @@ module _ (s : State) (p : Past) (f : Kept s p) where
         passed j ne = unfold lastIsClaim in cond-not _ _ (ne-eqb v j (λ e. ne (sym e)))
 
         by-cases : (b : Bool) → (So b → So (isInService (request (s .requests) v))) →
-            Kept (withSteps (cond b (withRequest s v k) s) m)
+            Logged (withSteps (cond b (withRequest s v k) s) m)
             (grown p s (withSteps (cond b (withRequest s v k) s) m) 0 (cond b (finished v ∷ []) []))
         by-cases true service =
             carried _ (finished v ∷ []) refl refl refl
@@ -277,9 +293,9 @@ module _ (s : State) (p : Past) (f : Kept s p) where
         by-cases false service = quiet _ refl refl refl refl
 
     -- the clock advances
-    advance-kept : (n : ℕ) → Kept (withSteps (advanced s n) m) (grown p s (withSteps (advanced s n) m) (n * bitsSet s) [])
+    advance-logged : (n : ℕ) → Logged (withSteps (advanced s n) m) (grown p s (withSteps (advanced s n) m) (n * bitsSet s) [])
     unfolding withSteps advanced withClock grown rises bitOf bitsSet
-    advance-kept n = record {
+    advance-logged n = record {
       at = λ i h. at-carried i (s .clock + n) (sourceClaims (s .counts) i) (sourceWaited (s .counts) i) (p .rose i) (p .since i)
           (request (s .requests) i) (request (s .requests) i) (p .events) (p .events)
           (f .at i h) (carries-same (s .clock + n) _ _ refl refl) refl refl (f .at i h .serving);
@@ -356,9 +372,9 @@ module _ (s : State) (p : Past) (f : Kept s p) where
           before : lastIsClaim j es ≡ lastIsClaim j (p .events)
           before = unfold lastIsClaim in cond-not _ _ differs
 
-      claim-of-kept : Kept (withSteps (claimOf s i) m) (grown p s (withSteps (claimOf s i) m) 0 (claimed i w ∷ []))
+      claim-of-logged : Logged (withSteps (claimOf s i) m) (grown p s (withSteps (claimOf s i) m) 0 (claimed i w ∷ []))
       unfolding withSteps claimOf withCounts withRequest grown rises bitOf
-      claim-of-kept = record {
+      claim-of-logged = record {
         at = λ j. same-or-other (λ j. j < 128 → AtThen j (request (setRequest (s .requests) i (served r)) j)) i j
             (λ l. subst (AtThen i) (sym (request-same (s .requests) i (served r) room l)) own)
             (λ ne l. subst (AtThen j) (sym (request-other (s .requests) i (served r) j ne)) (other j l ne));
@@ -371,7 +387,7 @@ module _ (s : State) (p : Past) (f : Kept s p) where
             ))
             (λ ne l.
             let differs : eqb (bucketOf w) k ≡ false = ne-eqb (bucketOf w) k (λ e. ne (sym e)) in
-            let rest = booked-other (s .buckets) w inside k ne in (
+            let rest = booked-other (s .buckets) w k ne in (
               rest .0 ∙ f .bucket k l .0 ∙ sym (passed-over (ofBucket k) differs .0),
               rest .1 ∙ f .bucket k l .1 ∙ sym (passed-over (ofBucket k) differs .1),
             ));
@@ -402,78 +418,78 @@ module _ (s : State) (p : Past) (f : Kept s p) where
           ages = unfold boardOpen in omega (arith, request-sum (s .requests) i (served r) room (openAge (s .clock)) h, open-was, open-is)
 
       -- the wait booked is the one that the run tells
-      told-kept : Kept (withSteps (claimOf s i) m) (grown p s (withSteps (claimOf s i) m) 0 (claimed i (s .clock - p .since i) ∷ []))
-      told-kept = subst (λ (x : ℕ). Kept (withSteps (claimOf s i) m) (grown p s (withSteps (claimOf s i) m) 0 (claimed i x ∷ [])))
-          same-wait claim-of-kept
+      wait-logged : Logged (withSteps (claimOf s i) m) (grown p s (withSteps (claimOf s i) m) 0 (claimed i (s .clock - p .since i) ∷ []))
+      wait-logged = subst (λ (x : ℕ). Logged (withSteps (claimOf s i) m) (grown p s (withSteps (claimOf s i) m) 0 (claimed i x ∷ [])))
+          same-wait claim-of-logged
         where
           same-wait : w ≡ s .clock - p .since i
           same-wait = unfold wait in ap (λ (x : ℕ). s .clock - x) (f .at i h .started pending)
 
     -- a step that changes nothing but the count
-    counted-step : Kept (withSteps s m) (grown p s (withSteps s m) 0 [])
+    counted-step : Logged (withSteps s m) (grown p s (withSteps s m) 0 [])
     unfolding withSteps
     counted-step = quiet _ refl refl refl refl
 
-    claim-kept : (c : ℕ) → Kept (withSteps (claimBy s c) m)
+    claim-logged : (c : ℕ) → Logged (withSteps (claimBy s c) m)
         (grown p s (withSteps (claimBy s c) m) 0 (claimEvent s (p .since) (winner s c)))
     unfolding claimBy claimEvent
-    claim-kept c = by-cases (eqb (winner s c) 0) (λ t.
+    claim-logged c = by-cases (eqb (winner s c) 0) (λ t.
         let own = winner-is s c .some (eqb-false (winner s c) 0 t) .0 in
-        told-kept (winner s c)
+        wait-logged (winner s c)
         (omega (arith, source-range (s .shape .sources) (winner s c) (own .source) .1, sound .limits .sources .1)) (own .pending))
       where
-        by-cases : (b : Bool) → (b ≡ false → Kept (withSteps (claimOf s (winner s c)) m)
+        by-cases : (b : Bool) → (b ≡ false → Logged (withSteps (claimOf s (winner s c)) m)
             (grown p s (withSteps (claimOf s (winner s c)) m) 0 (claimed (winner s c) (s .clock - p .since (winner s c)) ∷ []))) →
-            Kept (withSteps (cond b s (claimOf s (winner s c))) m)
+            Logged (withSteps (cond b s (claimOf s (winner s c))) m)
             (grown p s (withSteps (cond b s (claimOf s (winner s c))) m) 0
             (cond b [] (claimed (winner s c) (s .clock - p .since (winner s c)) ∷ [])))
         by-cases true _ = counted-step
         by-cases false k = k refl
 
-    read-kept : (r : Register) → Kept (withSteps (afterRead s r) m)
+    read-logged : (r : Register) → Logged (withSteps (afterRead s r) m)
         (grown p s (withSteps (afterRead s r) m) 0 (atClaim r (λ c. claimEvent s (p .since) (readOf s r))))
     unfolding afterRead readOf atClaim
-    read-kept (Priority i) = counted-step
-    read-kept (Pending k) = counted-step
-    read-kept (Enable c k) = counted-step
-    read-kept (Threshold c) = counted-step
-    read-kept (Claim c) = claim-kept c
-    read-kept Nothing = counted-step
+    read-logged (Priority i) = counted-step
+    read-logged (Pending k) = counted-step
+    read-logged (Enable c k) = counted-step
+    read-logged (Threshold c) = counted-step
+    read-logged (Claim c) = claim-logged c
+    read-logged Nothing = counted-step
 
-    write-kept : (r : Register) (v : ℕ) → Kept (withSteps (afterWrite s r v) m)
+    write-logged : (r : Register) (v : ℕ) → Logged (withSteps (afterWrite s r v) m)
         (grown p s (withSteps (afterWrite s r v) m) 0 (atClaim r (completionEvent s v)))
     unfolding afterWrite atClaim withSteps withPriority withEnable withThreshold withSettings
-    write-kept (Priority i) v = quiet _ refl refl refl refl
-    write-kept (Pending k) v = quiet _ refl refl refl refl
-    write-kept (Enable c k) v = quiet _ refl refl refl refl
-    write-kept (Threshold c) v = quiet _ refl refl refl refl
-    write-kept (Claim c) v = complete-kept c v
-    write-kept Nothing v = quiet _ refl refl refl refl
+    write-logged (Priority i) v = quiet _ refl refl refl refl
+    write-logged (Pending k) v = quiet _ refl refl refl refl
+    write-logged (Enable c k) v = quiet _ refl refl refl refl
+    write-logged (Threshold c) v = quiet _ refl refl refl refl
+    write-logged (Claim c) v = complete-logged c v
+    write-logged Nothing v = quiet _ refl refl refl refl
 
   module _ (sound : Sound s) where
-    unmoved : Kept s (grown p s s 0 [])
+    unmoved : Logged s (grown p s s 0 [])
     unmoved = quiet s refl refl refl refl
 
-    accepted-kept : (a : Call) →
-        Kept (after a s) (grown p s (after a s) (swept a s) (happened a s (getD (valuesOf a s) 0 0) (p .since)))
+    accepted-logged : (a : Call) →
+        Logged (after a s) (grown p s (after a s) (swept a s) (happened a s (getD (valuesOf a s) 0 0) (p .since)))
     unfolding after isStep effect swept happened valuesOf
-    accepted-kept (line i v) = line-kept sound (s .steps + 1) i v
-    accepted-kept (advance n) = advance-kept sound (s .steps + 1) n
-    accepted-kept (read off) = read-kept sound (s .steps + 1) (decode (s .shape .sources) (s .shape .contexts) off)
-    accepted-kept (write off v) = write-kept sound (s .steps + 1) (decode (s .shape .sources) (s .shape .contexts) off) v
-    accepted-kept (notification c) = unmoved
-    accepted-kept mean = unmoved
-    accepted-kept (byClaim q) = unmoved
-    accepted-kept (byTime q) = unmoved
-    accepted-kept totals = unmoved
+    accepted-logged (line i v) = line-logged sound (s .steps + 1) i v
+    accepted-logged (advance n) = advance-logged sound (s .steps + 1) n
+    accepted-logged (read off) = read-logged sound (s .steps + 1) (decode (s .shape .sources) (s .shape .contexts) off)
+    accepted-logged (write off v) = write-logged sound (s .steps + 1) (decode (s .shape .sources) (s .shape .contexts) off) v
+    accepted-logged (notification c) = unmoved
+    accepted-logged mean = unmoved
+    accepted-logged (byClaim q) = unmoved
+    accepted-logged (byTime q) = unmoved
+    accepted-logged totals = unmoved
 
-    respond-kept : (a : Call) → Kept (respond a s .state) (noted p a s (respond a s))
+    pub respond-logged : (a : Call) → Logged (respond a s .state) (noted p a s (respond a s))
     unfolding respond noted
-    respond-kept a = by-cases (eqb (firstOf (grounds a s)) 0)
+    respond-logged a = by-cases (eqb (firstOf (grounds a s)) 0)
       where
-        by-cases : (b : Bool) → Kept (cond b (after a s) s) (grown p s (cond b (after a s) s) (cond b (swept a s) 0)
+        by-cases : (b : Bool) → Logged (cond b (after a s) s) (grown p s (cond b (after a s) s) (cond b (swept a s) 0)
             (cond b (happened a s (getD (cond b (valuesOf a s) (replicate (length (valuesOf a s)) 0)) 0 0) (p .since)) []))
-        by-cases true = accepted-kept a
+        by-cases true = accepted-logged a
         by-cases false = unmoved
 
   -- the stored ages are those that the run tells
@@ -485,9 +501,9 @@ module _ (s : State) (p : Past) (f : Kept s p) where
       same-age true x y e = ap (λ (z : ℕ). s .clock - z) (e refl)
       same-age false x y e = refl
 
-  kept-accounted : Sound s → Accounted s p
+  pub logged-accounted : Sound s → Accounted s p
   unfolding bitOf valuesOf
-  kept-accounted sound = record {
+  logged-accounted sound = record {
     area = f .area ∙ ap (λ (x : ℕ). ticksIn every (p .events) + x) told-ages;
     sourceClaims = λ i h. f .at i h .claims;
     sourceTicks = λ i h. f .at i h .ticks;
@@ -500,48 +516,3 @@ module _ (s : State) (p : Past) (f : Kept s p) where
     totals = ap₂ (λ (x y : ℕ). s .clock ∷ x ∷ y ∷ boardOpen (s .clock) (s .requests) ∷ []) (f .claims) (f .waited)
         ∙ ap (λ (x : ℕ). s .clock ∷ claimsIn every (p .events) ∷ ticksIn every (p .events) ∷ x ∷ []) told-ages;
   }
-
--- a fresh state has nothing to account for
-fresh-kept : (h : Shape) → Kept (freshIn h) (past (freshIn h) [])
-unfolding freshIn past claimsIn ticksIn lastIsClaim
-fresh-kept h = record {
-  at = λ i l. record {
-    started = λ _. unfold request in getD-replicate 128 i 0 0 l;
-    claims = unfold sourceClaims in getD-replicate 128 i 0 0 l;
-    ticks = unfold sourceWaited in getD-replicate 128 i 0 0 l;
-    rises = omega (arith, cond-not {A = ℕ} {b = isPending (request (freshIn h .requests) i)} 1 0 (idle i l));
-    serving = λ t. absurd (not-so refl t);
-  };
-  bucket = λ k l. unfold bucketClaims bucketTicks in (getD-replicate 33 k 0 0 l, getD-replicate 33 k 0 0 l);
-  separate = tt;
-  claims = unfold boardClaims sourceClaims in sum-zero _ 128 (λ i l. getD-replicate 128 i 0 0 l);
-  waited = unfold boardWaited sourceWaited in sum-zero _ 128 (λ i l. getD-replicate 128 i 0 0 l);
-  area = omega (arith, ageless);
-}
-  where
-    idle : (i : ℕ) → i < 128 → isPending (request (freshIn h .requests) i) ≡ false
-    idle i l = unfold isPending request freshIn in ap (λ (x : ℕ). eqb x 1) (getD-replicate 128 i 0 0 l)
-
-    ageless : boardOpen (freshIn h .clock) (freshIn h .requests) ≡ 0
-    ageless = unfold boardOpen openAge in sum-zero _ 128 (λ i l. cond-not _ _ (idle i l))
-
-module _ (h : Shape) (sound : Sound (freshIn h)) where
-  run-sound : (calls : List Call) → Sound (run (freshIn h) calls)
-  unfolding run
-  run-sound [] = sound
-  run-sound (a ∷ earlier) = stays-sound (run (freshIn h) earlier) a (run-sound earlier)
-
-  run-kept : (calls : List Call) → Kept (run (freshIn h) calls) (past (freshIn h) calls)
-  unfolding run past
-  run-kept [] = fresh-kept h
-  run-kept (a ∷ earlier) = respond-kept (run (freshIn h) earlier) (past (freshIn h) earlier) (run-kept earlier) (run-sound earlier) a
-
--- Demand 3: "Over any run of calls from a fresh state, .. the total equals .."
-pub accounted : (n c b : ℕ) (kinds : List ℕ) → make n c b kinds .number ≡ 0 → (calls : List Call) →
-    Accounted (run (make n c b kinds .state) calls) (past (make n c b kinds .state) calls)
-accounted n c b kinds e calls =
-    let made = made-sound n c b kinds e in
-    subst (λ (s : State). Accounted (run s calls) (past s calls)) (sym (made .0))
-    (kept-accounted (run (freshIn (shapeOf n c b kinds)) calls) (past (freshIn (shapeOf n c b kinds)) calls)
-    (run-kept (shapeOf n c b kinds) (subst Sound (made .0) (made .1)) calls)
-    (run-sound (shapeOf n c b kinds) (subst Sound (made .0) (made .1)) calls))

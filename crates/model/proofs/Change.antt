@@ -14,6 +14,7 @@ use lib.Pow.{pow-pos}
 use borrow.Author.Tests.{ltb-true, ltb-false, eqb-true, eqb-false}
 use Rattle.laws.specs.Fold.{sumTo}
 use Rattle.laws.specs.Bits.{bit}
+use Rattle.laws.proofs.Fold.{same-or-other}
 use Rattle.laws.proofs.Truth.{dichotomy, not-so, and-right, cond-elim}
 use Rattle.model.specs.declared.Shape.{Shape}
 use Rattle.model.specs.declared.Settings.{Settings}
@@ -30,11 +31,6 @@ use Rattle.model.proofs.Sound.{kept-bit, kept-above}
 use Rattle.model.proofs.Claim.{source-range}
 use Rattle.model.proofs.Registers.{context-range}
 use Rattle.model.proofs.Board.{request-same, request-other, roomy-set}
-
--- an index is the one that changed, or another
-pub same-or-other : (P : ℕ → Type 0) (i j : ℕ) → P i → (j ≢ i → P j) → P j
-same-or-other P i j p f =
-    ⊎-elim (λ (t : So (eqb j i)). subst P (sym (eqb-true j i t)) p) (λ t. f (eqb-false j i t)) (dichotomy (eqb j i))
 
 -- a number reduced mod 2^b is at most 2^b - 1
 reduced-le : (v b : ℕ) → v % 2 ^ b ≤ 2 ^ b - 1

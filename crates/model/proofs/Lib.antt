@@ -1,3 +1,4 @@
+pub mod Account
 pub mod Sound
 pub mod Claim
 pub mod Waits
@@ -11,4 +12,4 @@ pub mod Make
 pub mod Refusals
 pub mod Reports
 pub mod Tallies
-pub mod Account
+pub mod Runs

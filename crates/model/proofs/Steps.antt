@@ -10,6 +10,7 @@ use lib.Dec.{leb, ltb, eqb}
 use lib.ListN.{length, getD, set, length-set}
 use borrow.Author.Tests.{ltb-true, ltb-false, leb-false, eqb-true, eqb-false, not-false}
 use Rattle.laws.specs.Fold.{sumTo}
+use Rattle.laws.proofs.Lists.{list-sum}
 use Rattle.laws.proofs.Truth.{dichotomy, not-so, and-left, and-right, cond-so, cond-not, cond-elim}
 use Rattle.model.specs.declared.Buckets.{Buckets}
 use Rattle.model.specs.declared.State.{State}
@@ -24,9 +25,19 @@ use Rattle.model.specs.Sound.{SoundSource, Sound}
 use Rattle.model.proofs.Claim.{source-range, winner-is}
 use Rattle.model.proofs.Waits.{bucket-holds}
 use Rattle.model.proofs.Registers.{word-range, is-named}
-use Rattle.model.proofs.Tallies.{counted-same, counted-other, counted-sums, booked-sums}
+use Rattle.model.proofs.Tallies.{counted-same, counted-other, counted-sums}
 use Rattle.model.proofs.Life.{line-kept, served-kept, takes-effect-iff, completed-kept}
 use Rattle.model.proofs.Change.{sound-steps, sound-clock, sound-request, sound-priority, sound-threshold, sound-enable}
+
+-- a wait booked with its bucket adds as much to the sums over all buckets
+booked-sums : (b : Buckets) (w : ℕ) → bucketOf w < 33 → length (b .claims) ≡ 33 → length (b .ticks) ≡ 33 →
+    (sumTo (bucketClaims (booked b w)) 33 ≡ sumTo (bucketClaims b) 33 + 1)
+    × (sumTo (bucketTicks (booked b w)) 33 ≡ sumTo (bucketTicks b) 33 + w)
+unfolding booked bucketClaims bucketTicks
+booked-sums b w h c t = (
+  omega (arith, list-sum (b .claims) 33 (bucketOf w) (getD (b .claims) (bucketOf w) 0 + 1) h (omega arith)),
+  omega (arith, list-sum (b .ticks) 33 (bucketOf w) (getD (b .ticks) (bucketOf w) 0 + w) h (omega arith)),
+)
 
 module _ (s : State) (f : Sound s) (room : s .steps < 4294967295) where
   below : (i : ℕ) → So (isSource (s .shape .sources) i) → i < 128

@@ -1,4 +1,4 @@
--- One wait more, booked with its source and with its bucket: what it adds, and that nothing else changes.
+-- One wait more, counted with its source: what it adds, and that nothing else changes.
 -- Assumes nothing.
 use mathlib.Core.Path.{_≡_, _∙_, refl, sym, ap}
 use mathlib.Core.Logic.{_≢_}
@@ -6,11 +6,9 @@ use Prim.Native.Nat.{ℕ, _+_, _<_}
 use native.Mathlib.Omega.{arith}
 use lib.ListN.{length, getD, set}
 use lib.Seq.{getD-set-same, getD-set-other}
-use Rattle.laws.specs.Fold.{sumTo}
 use Rattle.laws.proofs.Lists.{list-sum}
 use Rattle.model.specs.declared.Counts.{Counts}
-use Rattle.model.specs.declared.Buckets.{Buckets}
-use Rattle.model.specs.Waits.{bucketOf, counted, booked, sourceClaims, sourceWaited, boardClaims, boardWaited, bucketClaims, bucketTicks}
+use Rattle.model.specs.Waits.{counted, sourceClaims, sourceWaited, boardClaims, boardWaited}
 
 module _ (k : Counts) (i w : ℕ) where
   pub counted-same : i < length (k .claims) → i < length (k .waited) →
@@ -29,31 +27,4 @@ module _ (k : Counts) (i w : ℕ) where
   counted-sums h a b = (
     omega (arith, list-sum (k .claims) 128 i (getD (k .claims) i 0 + 1) h (omega arith)),
     omega (arith, list-sum (k .waited) 128 i (getD (k .waited) i 0 + w) h (omega arith)),
-  )
-
-module _ (b : Buckets) (w : ℕ) (h : bucketOf w < 33) where
-  pub booked-same : length (b .claims) ≡ 33 → length (b .ticks) ≡ 33 →
-      (bucketClaims (booked b w) (bucketOf w) ≡ bucketClaims b (bucketOf w) + 1)
-      × (bucketTicks (booked b w) (bucketOf w) ≡ bucketTicks b (bucketOf w) + w)
-  unfolding booked bucketClaims bucketTicks
-  booked-same c t = (
-    getD-set-same (b .claims) (bucketOf w) _ 0 (omega (arith, c)),
-    getD-set-same (b .ticks) (bucketOf w) _ 0 (omega (arith, t)),
-  )
-
-  pub booked-other : (k : ℕ) → k ≢ bucketOf w →
-      (bucketClaims (booked b w) k ≡ bucketClaims b k) × (bucketTicks (booked b w) k ≡ bucketTicks b k)
-  unfolding booked bucketClaims bucketTicks
-  booked-other k ne = (
-    getD-set-other (b .claims) (bucketOf w) k _ 0 ne,
-    getD-set-other (b .ticks) (bucketOf w) k _ 0 ne,
-  )
-
-  pub booked-sums : length (b .claims) ≡ 33 → length (b .ticks) ≡ 33 →
-      (sumTo (bucketClaims (booked b w)) 33 ≡ sumTo (bucketClaims b) 33 + 1)
-      × (sumTo (bucketTicks (booked b w)) 33 ≡ sumTo (bucketTicks b) 33 + w)
-  unfolding booked bucketClaims bucketTicks
-  booked-sums c t = (
-    omega (arith, list-sum (b .claims) 33 (bucketOf w) (getD (b .claims) (bucketOf w) 0 + 1) h (omega arith)),
-    omega (arith, list-sum (b .ticks) 33 (bucketOf w) (getD (b .ticks) (bucketOf w) 0 + w) h (omega arith)),
   )
