@@ -17,6 +17,7 @@ use Rattle.model.specs.Life.{lineAt, raised, edgeCounted, levelChanged, edgeCha
 use Rattle.model.specs.Registers.{priorityAt, pendingAt, enableAt, pageAt, decode, pendingWord, kept, readOf, afterRead, withPriority, withEnable, withThreshold, afterWrite}
 use Rattle.model.specs.Sound.{typed, allZero, soundSource, soundSourceAt, soundContext, sound}
 use Rattle.model.specs.Calls.{Call, line, advance, read, write, notification, mean, byClaim, byTime, totals, isStep, notSound, noStepLeft, offsetAbove, offsetUnaligned, noSuchSource, noSuchContext, clockPast, perMilleOutside, nothingToDivide, grounds, valuesOf, effect, after, respond, badShape, make}
+use Rattle.model.specs.Run.{run, bitOf, bitsSet, Past, swept, atClaim, claimEvent, completionEvent, happened, rises, grown, noted, past, claimsIn, ticksIn, agesOpen}
 
 -- "N = 3, C = 2, b = 3 unless said": source 1 is a level source, 2 an edge that drops extra edges, 3 one that counts them
 unfoldable pub board : State
@@ -49,3 +50,8 @@ unfoldable pub bookedTimes : ℕ → ℕ → Buckets → Buckets
 unfolding play
 bookedTimes zero w b = b
 bookedTimes (suc n) w b = bookedTimes n w (booked b w)
+
+-- what is read off a run of the board, the last call first
+unfoldable pub told : List Call → Past
+unfolding play run bitOf bitsSet swept atClaim claimEvent completionEvent happened rises grown noted past claimsIn ticksIn agesOpen
+told calls = past board calls
