@@ -4,7 +4,6 @@
 use mathlib.Core.Path.{refl}
 use mathlib.Core.Bool.{true, So}
 use mathlib.Core.List.{List, [], _∷_}
-use Prim.Native.Nat.{ℕ}
 use lib.Dec.{eqb}
 use lib.ListN.{length}
 use Rattle.laws.specs.Fold.{allOf}

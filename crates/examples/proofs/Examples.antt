@@ -9,7 +9,7 @@ use lib.Dec.{eqb}
 use Rattle.laws.specs.Fold.{allOf}
 use Rattle.model.specs.Board.{request}
 use Rattle.model.specs.Waits.{bucketOf, bucketClaims, bucketTicks, percentile}
-use Rattle.model.specs.Calls.{line, advance, read, write, notification}
+use Rattle.model.specs.Calls.{line, read, write, notification}
 use Rattle.examples.specs.Play.{board, play, gives, bookedTimes}
 
 pub examples : So (allOf (

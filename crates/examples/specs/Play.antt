@@ -1,22 +1,21 @@
 -- How an example is played: accepted calls to set the board up, then one call and what it gives.
 -- The lines `unfolding` name every definition that an example computes with.
 -- Assumes nothing.
-use mathlib.Core.Bool.{Bool, true, false, not, cond, _&&_, _||_, So}
-use mathlib.Core.List.{List, [], _∷_, _++_}
-use Prim.Native.Nat.{ℕ, zero, suc, _+_, _-_, _*_, _/_, _%_, _^_}
-use lib.Dec.{leb, ltb, eqb}
-use lib.ListN.{length, getD, set, replicate}
+use mathlib.Core.Bool.{Bool, true, false, _&&_}
+use mathlib.Core.List.{List, [], _∷_}
+use Prim.Native.Nat.{ℕ, zero, suc}
+use lib.Dec.{eqb}
 use Rattle.laws.specs.Fold.{sumTo, allTo, allOf, anyTo, firstTo, best}
 use Rattle.laws.specs.Bits.{bit, packed}
 use Rattle.model.specs.declared.Buckets.{Buckets}
 use Rattle.model.specs.declared.State.{State}
 use Rattle.model.specs.Board.{withinLimits, kindsFor, isSource, isContext, isWord, kindOf, freshIn, zeroState, zeroShape, shapeOf, request, setRequest, priority, threshold, enableWord, enabled, withClock, withSteps, withSettings, withRequest, withCounts}
-use Rattle.model.specs.Refusals.{Outcome, Ground, firstOf}
+use Rattle.model.specs.Refusals.{Outcome, firstOf}
 use Rattle.model.specs.Waits.{isIdle, isPending, isInService, wait, openAge, upperEnds, upperEnd, bucketOf, counted, booked, sourceClaims, sourceWaited, bucketClaims, bucketTicks, boardClaims, boardWaited, boardOpen, reaches, percentile}
 use Rattle.model.specs.Life.{lineAt, raised, edgeCounted, levelChanged, edgeChanged, lineChanged, lineChange, advanced, pendingFor, eligible, rank, winner, served, claimOf, claimBy, takesEffect, idled, edgeTaken, completed, completeBy, rouses, notified}
 use Rattle.model.specs.Registers.{priorityAt, pendingAt, enableAt, pageAt, decode, pendingWord, kept, readOf, afterRead, withPriority, withEnable, withThreshold, afterWrite}
 use Rattle.model.specs.Sound.{typed, allZero, soundSource, soundSourceAt, soundContext, sound}
-use Rattle.model.specs.Calls.{Call, line, advance, read, write, notification, mean, byClaim, byTime, totals, isStep, notSound, noStepLeft, offsetAbove, offsetUnaligned, noSuchSource, noSuchContext, clockPast, perMilleOutside, nothingToDivide, grounds, valuesOf, effect, after, respond, badShape, make}
+use Rattle.model.specs.Calls.{Call, isStep, notSound, noStepLeft, offsetAbove, offsetUnaligned, noSuchSource, noSuchContext, clockPast, perMilleOutside, nothingToDivide, grounds, valuesOf, effect, after, respond, badShape, make}
 use Rattle.model.specs.Run.{run, bitOf, bitsSet, Past, swept, atClaim, claimEvent, completionEvent, happened, rises, grown, noted, past, claimsIn, ticksIn, agesOpen}
 
 -- "N = 3, C = 2, b = 3 unless said": source 1 is a level source, 2 an edge that drops extra edges, 3 one that counts them

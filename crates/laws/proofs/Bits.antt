@@ -1,18 +1,16 @@
 -- The laws of rows of bits: a packed number has the bits that it was packed from, and its bits determine a number.
 -- Assumes nothing.
 use mathlib.Core.Path.{_≡_, _∙_, refl, sym, ap, ap₂, subst}
-use mathlib.Core.Bool.{Bool, true, false, cond, So}
+use mathlib.Core.Bool.{Bool, true, false, cond}
 use mathlib.Core.Logic.{_⊎_, ⊎-elim}
 use Prim.Native.Nat.{ℕ, zero, suc, _+_, _-_, _*_, _/_, _%_, _^_, _<_, _≤_}
-use native.Mathlib.Nat.{le-of-lt, le-refl, le-trans, lt-of-lt-of-le, mod-eq-of-lt, mod-lt, div-eq-of-lt, pow-suc, eq-or-lt-of-le, mod-one, add-mul-mod-self-right, one-mul, mul-comm, zero-mul, add-comm, div-one, div-div-eq-div-mul}
+use native.Mathlib.Nat.{le-refl, lt-of-lt-of-le, mod-eq-of-lt, mod-lt, div-eq-of-lt, pow-suc, eq-or-lt-of-le, mod-one, add-mul-mod-self-right, one-mul, mul-comm, zero-mul, add-comm, div-one, div-div-eq-div-mul}
 use native.Mathlib.Numerals.{add-one, one-add}
 use native.Mathlib.Omega.{arith}
 use lib.Dec.{eqb}
 use lib.Arith.{digits-div}
-use lib.Pow.{pow-pos, pow-add, pow-mono, field, mod-pow-add, mod-mod-pow}
-use borrow.Author.Tests.{eqb-true, eqb-false}
+use lib.Pow.{pow-add, pow-mono, field, mod-pow-add, mod-mod-pow}
 use Rattle.laws.specs.Bits.{bit, packed}
-use Rattle.laws.proofs.Fold.{last-or-below}
 
 worth-le : (b : Bool) (w : ℕ) → cond b w 0 ≤ w
 worth-le true w = le-refl w

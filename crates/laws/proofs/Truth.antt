@@ -1,7 +1,7 @@
 -- Tests and the facts that they stand for.
 -- Assumes nothing.
 use mathlib.Core.Path.{_≡_, _∙_, refl, sym, subst}
-use mathlib.Core.Bool.{Bool, true, false, not, cond, _&&_, _||_, So, true≢false, false≢true}
+use mathlib.Core.Bool.{Bool, true, false, not, cond, _&&_, _||_, So, false≢true}
 use mathlib.Core.Logic.{_⊎_, inl, inr}
 
 -- a test either holds or fails

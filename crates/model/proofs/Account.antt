@@ -6,7 +6,7 @@ use mathlib.Core.Path.{_≡_, _∙_, refl, sym, ap, ap₂, subst, subst₂}
 use mathlib.Core.Bool.{Bool, true, false, not, cond, _&&_, So}
 use mathlib.Core.Logic.{_⊎_, ⊎-elim, _≢_}
 use mathlib.Core.List.{List, [], _∷_, _++_}
-use Prim.Native.Nat.{ℕ, zero, suc, _+_, _-_, _*_, _≤_, _<_}
+use Prim.Native.Nat.{ℕ, _+_, _-_, _*_, _≤_, _<_}
 use native.Mathlib.Omega.{arith}
 use lib.Dec.{ltb, eqb}
 use lib.ListN.{length, getD, replicate}
@@ -22,14 +22,14 @@ use Rattle.model.specs.declared.Counts.{Counts}
 use Rattle.model.specs.declared.Buckets.{Buckets}
 use Rattle.model.specs.declared.Register.{Register}
 use Rattle.model.specs.declared.Register.the-variants.{Priority, Pending, Enable, Threshold, Claim, Nothing}
-use Rattle.model.specs.Board.{request, setRequest, isSource, kindOf, freshIn, shapeOf, withRequest, withCounts, withClock, withSteps, withSettings}
+use Rattle.model.specs.Board.{request, setRequest, kindOf, withRequest, withCounts, withClock, withSteps, withSettings}
 use Rattle.model.specs.Waits.{isIdle, isPending, isInService, wait, openAge, bucketOf, counted, booked, sourceClaims, sourceWaited, boardClaims, boardWaited, boardOpen, bucketClaims, bucketTicks}
 use Rattle.model.specs.Life.{lineAt, raised, edgeCounted, levelChanged, edgeChanged, lineChanged, lineChange, advanced, winner, served, claimOf, claimBy, takesEffect, idled, edgeTaken, completed, completeBy}
 use Rattle.model.specs.Registers.{decode, readOf, afterRead, afterWrite, withPriority, withEnable, withThreshold}
 use Rattle.model.specs.Sound.{Roomy, Sound}
-use Rattle.model.specs.Calls.{Call, line, advance, read, write, notification, mean, byClaim, byTime, totals, isStep, grounds, valuesOf, effect, after, respond, make}
+use Rattle.model.specs.Calls.{Call, line, advance, read, write, notification, mean, byClaim, byTime, totals, isStep, grounds, valuesOf, effect, after, respond}
 use Rattle.model.specs.Refusals.{firstOf}
-use Rattle.model.specs.Run.{run, bitOf, bitsSet, Event, claimed, finished, Past, swept, atClaim, claimEvent, completionEvent, happened, rises, grown, noted, past, claimsIn, ticksIn, every, ofSource, ofBucket, lastIsClaim, Separate, agesOpen, Accounted}
+use Rattle.model.specs.Run.{bitOf, bitsSet, Event, claimed, finished, Past, swept, atClaim, claimEvent, completionEvent, happened, rises, grown, noted, claimsIn, ticksIn, every, ofSource, ofBucket, lastIsClaim, Separate, agesOpen, Accounted}
 use Rattle.model.proofs.Board.{request-same, request-other, request-sum}
 use Rattle.model.proofs.Claim.{source-range, winner-is}
 use Rattle.model.proofs.Waits.{bucket-holds}

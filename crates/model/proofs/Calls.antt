@@ -2,24 +2,22 @@
 -- step counts.
 -- Assumes nothing.
 use mathlib.Core.Path.{_≡_, _∙_, refl, sym, ap, subst}
-use mathlib.Core.Bool.{Bool, true, false, not, cond, _&&_, So}
+use mathlib.Core.Bool.{false, So}
 use mathlib.Core.Logic.{_⊎_, ⊎-elim, _≢_}
 use mathlib.Core.List.{List, [], _∷_, List·Memᴰ, List·Memᴰ·head, List·Memᴰ·tail, List·Memᴰ·not-nil, List·Memᴰ·cases-cons}
-use Prim.Native.Nat.{ℕ, zero, suc, _+_, _-_, _*_, _%_, _≤_, _<_}
-use native.Mathlib.Nat.{le-refl}
+use Prim.Native.Nat.{ℕ, _+_, _-_, _%_, _<_}
 use native.Mathlib.Omega.{arith}
-use lib.Dec.{leb, ltb, eqb, eqb·suc-zero, lit<}
+use lib.Dec.{eqb, eqb·suc-zero, lit<}
 use lib.ListN.{length, replicate}
-use borrow.Author.Tests.{ltb-true, ltb-false, leb-true, leb-false, eqb-true, eqb-false, eq-eqb, ne-eqb, not-false, not-true}
-use Rattle.laws.proofs.Truth.{dichotomy, not-so, so-not, and-left, and-right, cond-so, cond-not, cond-elim}
+use borrow.Author.Tests.{ltb-false, leb-false, eqb-true, eqb-false, eq-eqb, ne-eqb, not-false}
+use Rattle.laws.proofs.Truth.{dichotomy, not-so, so-not, cond-so, cond-not, cond-elim}
 use Rattle.model.specs.declared.State.{State}
 use Rattle.model.specs.declared.Refusal.{Refusal}
-use Rattle.model.specs.declared.Register.{Register}
-use Rattle.model.specs.Board.{isSource, isContext, withSteps, withClock, withRequest, withCounts, withSettings}
-use Rattle.model.specs.Refusals.{Outcome, numberOf, Ground, firstOf, Concerns, Smallest}
+use Rattle.model.specs.Board.{withSteps}
+use Rattle.model.specs.Refusals.{numberOf, Ground, firstOf, Smallest}
 use Rattle.model.proofs.Refusals.{number-back}
 use Rattle.model.specs.Registers.{decode}
-use Rattle.model.specs.Sound.{sound, Sound}
+use Rattle.model.specs.Sound.{Sound}
 use Rattle.model.specs.Calls.{Call, line, advance, read, write, notification, mean, byClaim, byTime, totals, isStep, notSound, noStepLeft, offsetAbove, offsetUnaligned, noSuchSource, noSuchContext, clockPast, perMilleOutside, nothingToDivide, grounds, valuesOf, effect, after, respond}
 use Rattle.model.proofs.Sound.{sound-facts}
 use Rattle.model.proofs.Registers.{decode-iff}

@@ -1,13 +1,12 @@
 -- A sound state in which one group of fields has changed is sound again: the clock, the step count, a setting, a request.
 -- Assumes nothing.
 use mathlib.Core.Path.{_≡_, _∙_, refl, sym, ap, subst, subst₃}
-use mathlib.Core.Bool.{Bool, true, false, not, cond, _&&_, So}
+use mathlib.Core.Bool.{Bool, true, false, cond, So}
 use mathlib.Core.Logic.{_⊎_, ⊎-elim, _≢_}
-use mathlib.Core.List.{List}
-use Prim.Native.Nat.{ℕ, zero, suc, _+_, _-_, _*_, _%_, _^_, _≤_, _<_}
+use Prim.Native.Nat.{ℕ, _+_, _-_, _*_, _%_, _^_, _≤_, _<_}
 use native.Mathlib.Nat.{mod-lt}
 use native.Mathlib.Omega.{arith}
-use lib.Dec.{leb, ltb, eqb}
+use lib.Dec.{ltb, eqb}
 use lib.ListN.{length, getD, set, length-set}
 use lib.Seq.{getD-set-same, getD-set-other}
 use lib.Pow.{pow-pos}
@@ -15,18 +14,17 @@ use borrow.Author.Tests.{ltb-true, ltb-false, eqb-true, eqb-false}
 use Rattle.laws.specs.Fold.{sumTo}
 use Rattle.laws.specs.Bits.{bit}
 use Rattle.laws.proofs.Fold.{same-or-other}
-use Rattle.laws.proofs.Truth.{dichotomy, not-so, and-right, cond-elim}
+use Rattle.laws.proofs.Truth.{dichotomy, not-so, and-right}
 use Rattle.model.specs.declared.Shape.{Shape}
 use Rattle.model.specs.declared.Settings.{Settings}
-use Rattle.model.specs.declared.Requests.{Requests}
 use Rattle.model.specs.declared.Counts.{Counts}
 use Rattle.model.specs.declared.Buckets.{Buckets}
 use Rattle.model.specs.declared.State.{State}
 use Rattle.model.specs.declared.Request.{Request}
-use Rattle.model.specs.Board.{request, setRequest, isSource, isContext, kindOf, priority, threshold, enableWord, withClock, withSteps, withSettings, withRequest, withCounts}
+use Rattle.model.specs.Board.{request, setRequest, isSource, isContext, priority, threshold, enableWord, withClock, withSteps, withSettings, withRequest, withCounts}
 use Rattle.model.specs.Waits.{isPending, openAge, sourceClaims, sourceWaited, boardClaims, boardWaited, bucketClaims, bucketTicks}
 use Rattle.model.specs.Registers.{kept, withPriority, withEnable, withThreshold}
-use Rattle.model.specs.Sound.{Roomy, Typed, AllZero, SoundSource, SoundContext, Sound}
+use Rattle.model.specs.Sound.{SoundSource, SoundContext, Sound}
 use Rattle.model.proofs.Sound.{kept-bit, kept-above}
 use Rattle.model.proofs.Claim.{source-range}
 use Rattle.model.proofs.Registers.{context-range}

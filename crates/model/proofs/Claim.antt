@@ -1,19 +1,18 @@
 -- The winner of a claim is what document 01 says of it, and nothing else is; and when a context is notified.
 -- Assumes nothing.
-use mathlib.Core.Path.{_≡_, _∙_, refl, sym, ap, subst}
-use mathlib.Core.Bool.{Bool, true, false, cond, _&&_, So}
+use mathlib.Core.Path.{_≡_, refl, ap}
+use mathlib.Core.Bool.{false, So}
 use mathlib.Core.Logic.{_⊎_, ⊎-elim, ⊎-map, _≢_, _↔_}
-use Prim.Native.Nat.{ℕ, zero, suc, _≤_, _<_}
-use native.Mathlib.Nat.{le-refl, eq-zero-or-pos, eq-or-lt-of-le, pos-of-ne-zero, lt-irrefl}
+use Prim.Native.Nat.{ℕ, suc, _≤_, _<_}
+use native.Mathlib.Nat.{eq-zero-or-pos, eq-or-lt-of-le, pos-of-ne-zero, lt-irrefl}
 use native.Mathlib.Omega.{arith}
 use mathlib.Core.List.{List}
-use lib.Dec.{leb, ltb, eqb}
+use lib.Dec.{leb, ltb}
 use borrow.Author.Tests.{leb-true, ltb-true, ltb-false, lt-ltb, le-leb}
-use Rattle.laws.specs.Fold.{allOf, anyTo, best, Best}
-use Rattle.laws.proofs.Truth.{dichotomy, not-so, and-intro, and-left, and-right, cond-so, cond-not}
+use Rattle.laws.specs.Fold.{allOf, Best}
+use Rattle.laws.proofs.Truth.{dichotomy, and-intro, and-left, and-right, cond-so, cond-not}
 use Rattle.laws.proofs.Fold.{test-at, any-of, any-at, best-is, best-once}
 use Rattle.model.specs.declared.State.{State}
-use Rattle.model.specs.declared.Request.{Request}
 use Rattle.model.specs.Board.{request, isSource, priority, threshold, enabled, enableWord, withSettings}
 use Rattle.model.specs.Waits.{isPending}
 use Rattle.model.specs.Life.{pendingFor, PendingFor, eligible, Eligible, rank, winner, Winner, rouses, Rouses, notified}

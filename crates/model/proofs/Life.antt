@@ -1,22 +1,21 @@
 -- Each change in the life of a request keeps its source sound.
 -- Assumes nothing.
-use mathlib.Core.Path.{_≡_, _∙_, refl, sym, ap, subst}
-use mathlib.Core.Bool.{Bool, true, false, not, cond, _&&_, So, not-and-self}
+use mathlib.Core.Path.{_≡_, _∙_, refl, ap}
+use mathlib.Core.Bool.{Bool, false, not, _&&_, So, not-and-self}
 use mathlib.Core.Logic.{_⊎_, ⊎-elim, _≢_, _↔_}
-use Prim.Native.Nat.{ℕ, zero, suc, _+_, _-_, _^_, _≤_, _<_}
+use Prim.Native.Nat.{ℕ, _+_, _-_, _≤_, _<_}
 use native.Mathlib.Omega.{arith}
-use lib.Dec.{leb, ltb, eqb}
-use borrow.Author.Tests.{leb-true, ltb-true, ltb-false, eqb-true, eqb-false, eq-eqb, ne-eqb}
+use lib.Dec.{ltb, eqb}
+use borrow.Author.Tests.{ltb-true, ltb-false, eqb-true, eqb-false, eq-eqb}
 use Rattle.laws.specs.Fold.{allOf}
 use Rattle.laws.proofs.Fold.{test-at}
-use Rattle.laws.proofs.Truth.{dichotomy, not-so, and-intro, and-left, and-right, cond-so, cond-not, cond-elim}
-use mathlib.Core.List.{[], _∷_}
+use Rattle.laws.proofs.Truth.{dichotomy, not-so, and-intro, and-left, and-right, cond-so, cond-elim}
 use Rattle.model.specs.declared.Shape.{Shape}
 use Rattle.model.specs.declared.Requests.{Requests}
 use Rattle.model.specs.declared.State.{State}
 use Rattle.model.specs.declared.Request.{Request}
 use Rattle.model.specs.Board.{request, setRequest, isSource, kindOf, priority, withRequest}
-use Rattle.model.specs.Waits.{isIdle, isPending, isInService, openAge, wait, sourceClaims, sourceWaited}
+use Rattle.model.specs.Waits.{isIdle, isPending, openAge, wait, sourceClaims, sourceWaited}
 use Rattle.model.specs.Life.{lineAt, raised, edgeCounted, levelChanged, edgeChanged, lineChanged, lineChange, served, takesEffect, TakesEffect, idled, edgeTaken, completed}
 use Rattle.model.specs.Sound.{SoundSource, Sound}
 use Rattle.model.proofs.Board.{request-back}

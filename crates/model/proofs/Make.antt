@@ -1,28 +1,25 @@
 -- Making: an accepted shape gives a sound, fresh state; any other a state that is zero throughout.
 -- Assumes nothing.
 use mathlib.Core.Path.{_≡_, _∙_, refl, sym, ap, subst}
-use mathlib.Core.Bool.{Bool, true, false, not, cond, _&&_, So}
+use mathlib.Core.Bool.{Bool, false, not, cond, _&&_, So}
 use mathlib.Core.Logic.{_⊎_, ⊎-elim, _≢_}
-use mathlib.Core.List.{List, [], _∷_, _++_}
-use Prim.Native.Nat.{ℕ, zero, suc, _+_, _-_, _*_, _^_, _≤_, _<_}
+use mathlib.Core.List.{List, _++_}
+use Prim.Native.Nat.{ℕ, zero, suc, _+_, _-_, _*_, _≤_, _<_}
 use native.Mathlib.Omega.{arith}
-use lib.Dec.{leb, ltb, eqb}
+use lib.Dec.{ltb, eqb}
 use lib.ListN.{length, getD, replicate, length-replicate, getD-replicate, length-append, List·getD-append}
 use lib.Seq.{getD-append-add}
-use lib.Pow.{pow-pos}
-use borrow.Author.Tests.{leb-true, eqb-true, eqb-false, eq-eqb, not-false, not-true, ltb-true, ltb-false}
-use Rattle.laws.specs.Fold.{sumTo, allTo}
+use borrow.Author.Tests.{leb-true, eqb-true, ltb-true, ltb-false}
 use Rattle.laws.specs.Bits.{bit}
-use Rattle.laws.proofs.Truth.{dichotomy, not-so, so-not, and-left, and-right, cond-so, cond-not, cond-elim}
+use Rattle.laws.proofs.Truth.{dichotomy, not-so, and-left, and-right}
 use Rattle.laws.proofs.Fold.{all-at, sum-zero}
 use Rattle.laws.proofs.Bits.{bit-above}
 use Rattle.model.specs.declared.Shape.{Shape}
-use Rattle.model.specs.declared.State.{State}
 use Rattle.model.specs.declared.Request.{Request}
-use Rattle.model.specs.Board.{request, priority, threshold, enableWord, withinLimits, kindsFor, isSource, isContext, kindOf, zeroShape, zeroState, freshIn, shapeOf}
+use Rattle.model.specs.Board.{request, priority, threshold, enableWord, withinLimits, kindsFor, isSource, kindOf, zeroState, freshIn, shapeOf}
 use Rattle.model.specs.Refusals.{firstOf}
 use Rattle.model.specs.Waits.{isPending, isIdle, openAge, sourceClaims, sourceWaited, boardClaims, boardWaited, bucketClaims, bucketTicks}
-use Rattle.model.specs.Sound.{WithinLimits, AllZero, SoundSource, SoundContext, Sound}
+use Rattle.model.specs.Sound.{WithinLimits, SoundSource, SoundContext, Sound}
 use Rattle.model.specs.Calls.{badShape, make}
 use Rattle.model.proofs.Sound.{limits-facts}
 use Rattle.model.proofs.Claim.{range-source}

@@ -1,8 +1,8 @@
 -- The numbers and values of an answer determine it: each refusal has its own number, none has 0, and so an outcome can be read
 -- back into the answer that it came from.
 -- Assumes nothing.
-use mathlib.Core.Path.{_≡_, _∙_, refl, sym, ap}
-use mathlib.Core.List.{List, [], _∷_}
+use mathlib.Core.Path.{_≡_, _∙_, refl, ap}
+use mathlib.Core.List.{[], _∷_}
 use Prim.Native.Nat.{ℕ, zero, suc}
 use lib.ListN.{getD}
 use Rattle.laws.proofs.Once.{once}

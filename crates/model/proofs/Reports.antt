@@ -4,9 +4,9 @@ use mathlib.Core.Path.{_≡_, refl, ap}
 use mathlib.Core.Bool.{So}
 use mathlib.Core.Logic.{⊎-elim}
 use Prim.Native.Nat.{ℕ, suc, _*_, _≤_, _<_}
-use native.Mathlib.Nat.{mul-le-mul-left, mul-comm}
+use native.Mathlib.Nat.{mul-le-mul-left}
 use native.Mathlib.Omega.{arith}
-use lib.Dec.{leb, ltb}
+use lib.Dec.{ltb}
 use borrow.Author.Tests.{leb-true, leb-false, le-leb, ltb-true, ltb-false}
 use Rattle.laws.specs.Fold.{sumTo, firstTo, First}
 use Rattle.laws.proofs.Truth.{dichotomy, so-not}

@@ -1,27 +1,24 @@
 -- Sound as a test and Sound as plain facts: each follows from the other.
 -- Assumes nothing.
 use mathlib.Core.Path.{_≡_, _∙_, refl, sym, ap, subst}
-use mathlib.Core.Bool.{Bool, true, false, not, cond, _&&_, _||_, So}
-use mathlib.Core.Logic.{_⊎_, ⊎-elim, _≢_, _↔_}
-use mathlib.Core.List.{List, [], _∷_}
-use Prim.Native.Nat.{ℕ, zero, suc, _+_, _-_, _*_, _^_, _≤_, _<_}
-use native.Mathlib.Omega.{arith}
-use lib.Dec.{leb, ltb, eqb}
-use lib.ListN.{length, getD}
+use mathlib.Core.Bool.{Bool, true, false, not, _&&_, _||_, So}
+use mathlib.Core.Logic.{_⊎_, ⊎-elim, _↔_}
+use Prim.Native.Nat.{ℕ, _+_, _-_, _*_, _≤_, _<_}
+use lib.Dec.{ltb, eqb}
 use borrow.Author.Tests.{ltb-true, ltb-false, lt-ltb, le-ltb, leb-true, eqb-true, le-leb, eq-eqb, ne-eqb, eqb-false, not-false}
-use Rattle.laws.specs.Fold.{sumTo, allTo, allOf}
-use Rattle.laws.specs.Bits.{bit, packed}
-use Rattle.laws.proofs.Truth.{dichotomy, not-so, so-not, fails, same-test, and-intro, and-left, and-right, or-left, or-right, or-cases}
+use Rattle.laws.specs.Fold.{allOf}
+use Rattle.laws.specs.Bits.{bit}
+use Rattle.laws.proofs.Truth.{dichotomy, not-so, so-not, fails, same-test, and-intro, and-left, and-right}
 use Rattle.laws.proofs.Fold.{all-at, all-of, test-at}
 use Rattle.laws.proofs.Bits.{bit-packed, bit-above, packed-lt, bits-ext}
 use Rattle.model.specs.declared.Shape.{Shape}
 use Rattle.model.specs.declared.Settings.{Settings}
 use Rattle.model.specs.declared.State.{State}
 use Rattle.model.specs.declared.Request.{Request}
-use Rattle.model.specs.Board.{request, withinLimits, isSource, isContext, kindOf, priority, threshold, enableWord}
-use Rattle.model.specs.Waits.{isIdle, isPending, openAge, boardClaims, boardWaited, bucketClaims, bucketTicks}
+use Rattle.model.specs.Board.{request, withinLimits, isSource, kindOf, priority, threshold, enableWord}
+use Rattle.model.specs.Waits.{isIdle, bucketClaims, bucketTicks}
 use Rattle.model.specs.Registers.{kept}
-use Rattle.model.specs.Sound.{typed, allZero, soundSource, soundSourceAt, soundContext, sound, Typed, WithinLimits, AllZero, SoundSource, SoundSourceAt, SoundContext, Sound}
+use Rattle.model.specs.Sound.{typed, allZero, soundSource, soundSourceAt, soundContext, sound, Typed, WithinLimits, AllZero, SoundSourceAt, SoundContext, Sound}
 
 -- a clause "a or b" is "b where not a"
 or-else : (a b : Bool) → So (a || b) → a ≡ false → So b

@@ -1,26 +1,25 @@
 -- Each step keeps a sound state sound, and counts as one step.
 -- Assumes nothing.
-use mathlib.Core.Path.{_≡_, _∙_, refl, sym, ap, subst, subst₂}
-use mathlib.Core.Bool.{Bool, true, false, not, cond, _&&_, So}
-use mathlib.Core.Logic.{_⊎_, ⊎-elim, _≢_}
-use mathlib.Core.List.{List, [], _∷_}
-use Prim.Native.Nat.{ℕ, zero, suc, _+_, _-_, _*_, _/_, _%_, _^_, _≤_, _<_}
+use mathlib.Core.Path.{_≡_, _∙_, refl, sym, subst₂}
+use mathlib.Core.Bool.{Bool, So}
+use mathlib.Core.Logic.{_≢_}
+use Prim.Native.Nat.{ℕ, _+_, _-_, _≤_, _<_}
 use native.Mathlib.Omega.{arith}
-use lib.Dec.{leb, ltb, eqb}
-use lib.ListN.{length, getD, set, length-set}
-use borrow.Author.Tests.{ltb-true, ltb-false, leb-false, eqb-true, eqb-false, not-false}
+use lib.Dec.{eqb}
+use lib.ListN.{length, getD, length-set}
+use borrow.Author.Tests.{eqb-false}
 use Rattle.laws.specs.Fold.{sumTo}
 use Rattle.laws.proofs.Lists.{list-sum}
-use Rattle.laws.proofs.Truth.{dichotomy, not-so, and-left, and-right, cond-so, cond-not, cond-elim}
+use Rattle.laws.proofs.Truth.{cond-elim}
 use Rattle.model.specs.declared.Buckets.{Buckets}
 use Rattle.model.specs.declared.State.{State}
 use Rattle.model.specs.declared.Register.{Register}
 use Rattle.model.specs.declared.Register.the-variants.{Priority, Pending, Enable, Threshold, Claim, Nothing}
 use Rattle.model.specs.declared.Request.{Request}
-use Rattle.model.specs.Board.{request, setRequest, isSource, isContext, isWord, kindOf, priority, enabled, withSteps, withRequest, withCounts, withClock, withSettings}
-use Rattle.model.specs.Waits.{isIdle, isPending, isInService, wait, bucketOf, counted, booked, sourceClaims, sourceWaited, boardClaims, boardWaited, bucketClaims, bucketTicks}
-use Rattle.model.specs.Life.{lineAt, raised, edgeCounted, levelChanged, edgeChanged, lineChanged, lineChange, advanced, winner, served, claimOf, claimBy, takesEffect, idled, edgeTaken, completed, completeBy}
-use Rattle.model.specs.Registers.{StandsAt, decode, afterRead, afterWrite, withPriority, withEnable, withThreshold}
+use Rattle.model.specs.Board.{request, isSource, kindOf, priority, withSteps, withRequest, withCounts, withClock, withSettings}
+use Rattle.model.specs.Waits.{isPending, wait, bucketOf, counted, booked, sourceClaims, sourceWaited, boardClaims, boardWaited, bucketClaims, bucketTicks}
+use Rattle.model.specs.Life.{lineChanged, lineChange, advanced, winner, served, claimOf, claimBy, takesEffect, completed, completeBy}
+use Rattle.model.specs.Registers.{StandsAt, afterRead, afterWrite, withPriority, withEnable, withThreshold}
 use Rattle.model.specs.Sound.{SoundSource, Sound}
 use Rattle.model.proofs.Claim.{source-range, winner-is}
 use Rattle.model.proofs.Waits.{bucket-holds}

@@ -1,15 +1,15 @@
 -- The table of upper ends follows its rule, and a wait belongs to exactly one bucket.
 -- Assumes nothing.
-use mathlib.Core.Path.{_≡_, _∙_, refl, sym, ap, subst}
-use mathlib.Core.Bool.{Bool, true, false, So}
+use mathlib.Core.Path.{_≡_, refl, sym, subst}
+use mathlib.Core.Bool.{Bool, So}
 use mathlib.Core.Logic.{_⊎_, ⊎-elim, _↔_}
-use Prim.Native.Nat.{ℕ, zero, suc, _+_, _-_, _*_, _^_, _≤_, _<_}
+use Prim.Native.Nat.{ℕ, zero, suc, _-_, _^_, _≤_, _<_}
 use native.Mathlib.Omega.{arith}
 use lib.Dec.{leb, ltb, eqb}
 use lib.Pow.{pow-pos, pow-mono}
-use borrow.Author.Tests.{leb-true, leb-false, le-leb, ltb-true, ltb-false, eqb-true}
-use Rattle.laws.specs.Fold.{allTo, firstTo, First}
-use Rattle.laws.proofs.Truth.{dichotomy, not-so, so-not}
+use borrow.Author.Tests.{leb-true, le-leb, ltb-true, ltb-false, eqb-true}
+use Rattle.laws.specs.Fold.{allTo, First}
+use Rattle.laws.proofs.Truth.{dichotomy}
 use Rattle.laws.proofs.Fold.{all-at, first-is, first-once}
 use Rattle.model.specs.Waits.{upperEnds, upperEnd, lowerEnd, Holds, bucketOf}
 

@@ -1,8 +1,8 @@
 -- Document 01, "What the board contains": the shape and its limits, the fresh state, and how the rest reads and changes a state.
 -- Assumes nothing.
-use mathlib.Core.Bool.{Bool, true, false, _&&_}
+use mathlib.Core.Bool.{Bool, false, _&&_}
 use mathlib.Core.List.{List, [], _∷_, _++_}
-use Prim.Native.Nat.{ℕ, zero, suc, _+_, _-_, _*_, _/_, _%_, _≤_, _<_}
+use Prim.Native.Nat.{ℕ, _+_, _-_, _*_, _/_, _%_}
 use lib.Dec.{leb, ltb, eqb}
 use lib.ListN.{length, getD, set, replicate}
 use Rattle.laws.specs.Fold.{allTo, allOf}

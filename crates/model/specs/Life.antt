@@ -1,12 +1,11 @@
 -- Document 01, "Life of a request".
 -- Assumes nothing.
 use mathlib.Core.Path.{_≡_}
-use mathlib.Core.Bool.{Bool, true, false, not, cond, _&&_, _||_, So}
+use mathlib.Core.Bool.{Bool, not, cond, _&&_, So}
 use mathlib.Core.Logic.{_↔_, _≢_}
 use mathlib.Core.List.{[], _∷_}
 use Prim.Native.Nat.{ℕ, zero, suc, _+_, _-_, _≤_, _<_}
 use lib.Dec.{leb, ltb, eqb}
-use lib.ListN.{getD}
 use Rattle.laws.specs.Fold.{allOf, anyTo, best}
 use Rattle.model.specs.declared.State.{State}
 use Rattle.model.specs.declared.Request.{Request}

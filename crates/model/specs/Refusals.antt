@@ -1,12 +1,10 @@
 -- Document 01, "Numbers of refusal": the numbers, the enums that carry them, and which of several is given.
 -- Assumes nothing.
 use mathlib.Core.Path.{_≡_}
-use mathlib.Core.Bool.{Bool, true, false, cond, So}
-use mathlib.Core.Logic.{_↔_, _≢_}
+use mathlib.Core.Bool.{Bool, cond, So}
+use mathlib.Core.Logic.{_≢_}
 use mathlib.Core.List.{List, [], _∷_, List·Memᴰ}
-use Prim.Native.Nat.{ℕ, zero, suc, _≤_, _<_}
-use lib.Dec.{eqb}
-use lib.ListN.{length, replicate}
+use Prim.Native.Nat.{ℕ, _≤_}
 use Rattle.model.specs.declared.State.{State}
 use Rattle.model.specs.declared.Refusal.{Refusal}
 use Rattle.model.specs.declared.Refusal.the-variants.{BadShape, NotSound, NoStepLeft, OffsetAbove, OffsetUnaligned, NoSuchSource, NoSuchContext, ClockPast, PerMilleOutside, NothingToDivide, Unreadable}

@@ -1,13 +1,12 @@
 -- Document 01, "Register map (32-bit words, offsets from base)".
 -- Assumes nothing.
 use mathlib.Core.Path.{_≡_}
-use mathlib.Core.Bool.{Bool, true, false, cond, _&&_, So}
-use Prim.Native.Nat.{ℕ, zero, suc, _+_, _-_, _*_, _/_, _%_, _^_, _≤_, _<_}
-use lib.Dec.{leb, ltb, eqb}
-use lib.ListN.{getD, set}
+use mathlib.Core.Bool.{cond, _&&_, So}
+use Prim.Native.Nat.{ℕ, _+_, _-_, _*_, _/_, _%_, _^_}
+use lib.Dec.{ltb, eqb}
+use lib.ListN.{set}
 use Rattle.laws.specs.Bits.{bit, packed}
 use Rattle.model.specs.declared.State.{State}
-use Rattle.model.specs.declared.Settings.{Settings}
 use Rattle.model.specs.declared.Register.{Register}
 use Rattle.model.specs.declared.Register.the-variants.{Priority, Pending, Enable, Threshold, Claim, Nothing}
 use Rattle.model.specs.Board.{isSource, isContext, isWord, request, priority, threshold, enableWord, withSettings}

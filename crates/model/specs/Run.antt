@@ -2,9 +2,9 @@
 -- at a source's claims or ticks, or at a bucket, but where `Accounted` compares them with what was read off the run.
 -- Assumes nothing.
 use mathlib.Core.Path.{_≡_}
-use mathlib.Core.Bool.{Bool, true, false, not, cond, _&&_, So}
+use mathlib.Core.Bool.{Bool, true, false, not, cond, _&&_}
 use mathlib.Core.List.{List, [], _∷_, _++_}
-use Prim.Native.Nat.{ℕ, zero, suc, _+_, _-_, _*_, _≤_, _<_}
+use Prim.Native.Nat.{ℕ, _+_, _-_, _*_, _<_}
 use lib.Dec.{eqb}
 use lib.ListN.{getD}
 use Rattle.laws.specs.Fold.{sumTo}

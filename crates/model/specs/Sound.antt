@@ -2,11 +2,11 @@
 -- The first clause is what the state's own types say: an array has its length, and clock and steps fit 32 bits.
 -- Assumes nothing.
 use mathlib.Core.Path.{_≡_}
-use mathlib.Core.Bool.{Bool, true, false, not, cond, _&&_, _||_, So}
+use mathlib.Core.Bool.{Bool, false, not, _&&_, _||_, So}
 use mathlib.Core.Logic.{_≢_}
-use mathlib.Core.List.{List, [], _∷_}
-use Prim.Native.Nat.{ℕ, zero, suc, _+_, _-_, _*_, _^_, _≤_, _<_}
-use lib.Dec.{leb, ltb, eqb}
+use mathlib.Core.List.{[], _∷_}
+use Prim.Native.Nat.{ℕ, _+_, _-_, _*_, _^_, _≤_, _<_}
+use lib.Dec.{leb, eqb}
 use lib.ListN.{length}
 use Rattle.laws.specs.Fold.{sumTo, allTo, allOf}
 use Rattle.laws.specs.Bits.{bit}

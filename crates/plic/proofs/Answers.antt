@@ -1,20 +1,15 @@
 -- Which refusal a report gives, by the tests in the order in which the code makes them.
 -- Assumes nothing.
-use mathlib.Core.Path.{_≡_, _∙_, refl, sym, ap}
-use mathlib.Core.Bool.{Bool, true, false, not, _&&_, _||_, So}
+use mathlib.Core.Path.{_≡_, refl, ap}
+use mathlib.Core.Bool.{false, not, So}
 use mathlib.Core.List.{List, [], _∷_}
-use Prim.Native.Nat.{ℕ, _+_, _-_, _%_, _≤_, _<_}
-use native.Mathlib.Omega.{arith}
-use lib.Dec.{leb, ltb, eqb}
-use borrow.Author.Tests.{lt-ltb, le-ltb, le-leb, lt-leb, ltb-true, ltb-false, leb-true, eq-eqb, ne-eqb}
-use Rattle.laws.proofs.Truth.{same-test, so-not, not-so, and-intro, and-left, and-right, and-fails-left, and-fails-right, or-left, or-right, or-cases}
-use mathlib.Core.Logic.{⊎-elim}
+use Prim.Native.Nat.{ℕ, _-_}
+use borrow.Author.Tests.{eq-eqb, ne-eqb}
 use Rattle.model.specs.declared.State.{State}
-use Rattle.model.specs.declared.Refusal.the-variants.{NotSound, NoStepLeft, OffsetAbove, OffsetUnaligned, NoSuchSource, NoSuchContext, ClockPast, PerMilleOutside, NothingToDivide}
-use Rattle.model.specs.Board.{isSource, isContext}
+use Rattle.model.specs.declared.Refusal.the-variants.{NotSound, NothingToDivide}
 use Rattle.model.specs.Refusals.{numberOf, Ground, firstOf}
 use Rattle.model.specs.Sound.{sound}
-use Rattle.model.specs.Calls.{notSound, noStepLeft, offsetAbove, offsetUnaligned, noSuchSource, noSuchContext, clockPast, perMilleOutside, nothingToDivide}
+use Rattle.model.specs.Calls.{notSound, nothingToDivide}
 use Rattle.model.proofs.Calls.{first-hit, first-miss}
 
 module _ (s : State) (gs : List Ground) where

@@ -1,7 +1,7 @@
 -- What a write of enables keeps, as the code works it out: the low bits up to N's, and for word 0 without the lowest.
 -- Assumes nothing.
-use mathlib.Core.Path.{_≡_, _∙_, refl, sym, ap}
-use mathlib.Core.Bool.{Bool, true, false, _&&_, So, and-true, and-false}
+use mathlib.Core.Path.{_≡_, _∙_, sym, ap}
+use mathlib.Core.Bool.{Bool, false, _&&_, So, and-true, and-false}
 use mathlib.Core.Logic.{⊎-elim}
 use Prim.Native.Nat.{ℕ, zero, suc, _+_, _-_, _*_, _%_, _^_, _≤_, _<_}
 use native.Mathlib.Nat.{mod-lt, mod-le, lt-of-le-of-lt}
@@ -10,7 +10,7 @@ use lib.Dec.{ltb}
 use lib.Pow.{pow-pos}
 use borrow.Author.Tests.{ltb-true, ltb-false}
 use Rattle.laws.specs.Bits.{bit}
-use Rattle.laws.proofs.Truth.{dichotomy, not-so, so-not, and-fails-right}
+use Rattle.laws.proofs.Truth.{dichotomy, so-not, and-fails-right}
 use Rattle.laws.proofs.Bits.{bits-ext, bit-cut, bit-above, bit-even-zero, bit-even-suc}
 use Rattle.model.specs.Board.{isSource}
 use Rattle.model.specs.Registers.{kept}

@@ -1,13 +1,13 @@
 -- What a sound state with a step left says of the arrays that a step changes, and how the changed arrays make up the state after it.
 -- Assumes nothing.
-use mathlib.Core.Path.{_≡_, _∙_, refl, sym, ap, subst}
+use mathlib.Core.Path.{_≡_, _∙_, refl, sym, ap}
 use mathlib.Core.Bool.{Bool, true, false, cond, _&&_, So, and-true}
 use mathlib.Core.Logic.{⊎-elim, _≢_}
 use mathlib.Core.List.{List}
-use Prim.Native.Nat.{ℕ, _+_, _-_, _*_, _/_, _%_, _≤_, _<_}
+use Prim.Native.Nat.{ℕ, _-_, _*_, _/_, _%_, _≤_, _<_}
 use native.Mathlib.Omega.{arith}
 use lib.Dec.{leb, eqb}
-use lib.ListN.{getD, set}
+use lib.ListN.{getD}
 use lib.Seq.{set-getD}
 use borrow.Author.Tests.{eq-eqb}
 use Rattle.laws.specs.Fold.{sumTo, allTo, allOf}
@@ -27,7 +27,7 @@ use Rattle.model.specs.Sound.{typed, soundSourceAt, soundContext, sound, Sound}
 use Rattle.model.proofs.Claim.{source-range}
 use Rattle.model.proofs.Registers.{context-range, word-range, is-named, decode-iff}
 use Rattle.plic.specs.Leaves.{enabledIn, pendingForIn, rankIn, winnerIn}
-use Rattle.plic.specs.Arrays.{requestsOf, countsOf, bucketsOf, stateOf, Ready, completedAt, takesEffectIn, completedBy, Bookable, Claimed}
+use Rattle.plic.specs.Arrays.{requestsOf, stateOf, Ready, completedAt, takesEffectIn, completedBy, Bookable, Claimed}
 
 -- the board's sums in a sound state fit their places
 pub claims-fit : (s : State) → Sound s → boardClaims (s .counts) ≤ 4294967295

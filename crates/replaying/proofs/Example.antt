@@ -5,15 +5,13 @@ use mathlib.Core.List.{List, [], _∷_}
 use Prim.Native.Nat.{ℕ}
 use Rattle.laws.specs.Fold.{sumTo, allTo, allOf, anyTo, firstTo, best}
 use Rattle.laws.specs.Bits.{bit, packed}
-use Rattle.model.specs.declared.Buckets.{Buckets}
-use Rattle.model.specs.declared.State.{State}
 use Rattle.model.specs.Board.{withinLimits, kindsFor, isSource, isContext, isWord, kindOf, freshIn, zeroState, zeroShape, shapeOf, request, setRequest, priority, threshold, enableWord, enabled, withClock, withSteps, withSettings, withRequest, withCounts}
-use Rattle.model.specs.Refusals.{Outcome, Ground, firstOf}
+use Rattle.model.specs.Refusals.{firstOf}
 use Rattle.model.specs.Waits.{isIdle, isPending, isInService, wait, openAge, upperEnds, upperEnd, bucketOf, counted, booked, sourceClaims, sourceWaited, bucketClaims, bucketTicks, boardClaims, boardWaited, boardOpen, reaches, percentile}
 use Rattle.model.specs.Life.{lineAt, raised, edgeCounted, levelChanged, edgeChanged, lineChanged, lineChange, advanced, pendingFor, eligible, rank, winner, served, claimOf, claimBy, takesEffect, idled, edgeTaken, completed, completeBy, rouses, notified}
 use Rattle.model.specs.Registers.{priorityAt, pendingAt, enableAt, pageAt, decode, pendingWord, kept, readOf, afterRead, withPriority, withEnable, withThreshold, afterWrite}
 use Rattle.model.specs.Sound.{typed, allZero, soundSource, soundSourceAt, soundContext, sound}
-use Rattle.model.specs.Calls.{Call, line, advance, read, write, notification, mean, byClaim, byTime, totals, isStep, notSound, noStepLeft, offsetAbove, offsetUnaligned, noSuchSource, noSuchContext, clockPast, perMilleOutside, nothingToDivide, grounds, valuesOf, effect, after, respond, badShape, make}
+use Rattle.model.specs.Calls.{isStep, notSound, noStepLeft, offsetAbove, offsetUnaligned, noSuchSource, noSuchContext, clockPast, perMilleOutside, nothingToDivide, grounds, valuesOf, effect, after, respond, badShape, make}
 use Rattle.commands.specs.Grammar.{isDigit, isHexDigit, hexDigit, isKind, every, joinFirst, words, decimalFrom, decimal, noNeedlessZero, isNumber, hexFrom, hex, isOffset, isByte, isKinds, ofTwo, ofThree, ofFive, ofWords, commandOf}
 use Rattle.replaying.specs.Replay.{digitsIn, digits, refusedLine, valueLine, totalsLine, goesOn, silent, commanded, kindByte, kindBytes, started, badStart, firstLine, answer, lineEnds, fed, fedAll, lastIn, closing, finished, fresh, replay}
 

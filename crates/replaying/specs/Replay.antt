@@ -1,13 +1,13 @@
 -- Document 01, "Replay": what each line of the input prints and does, and the whole input, byte by byte.
 -- Assumes nothing.
-use mathlib.Core.Bool.{Bool, true, false, cond}
+use mathlib.Core.Bool.{cond}
 use mathlib.Core.List.{List, [], _∷_, _++_}
-use Prim.Native.Nat.{ℕ, zero, suc, _+_, _-_, _/_, _%_}
+use Prim.Native.Nat.{ℕ, zero, suc, _+_, _/_, _%_}
 use lib.Dec.{ltb, eqb}
 use lib.ListN.{getD, drop}
 use Rattle.model.specs.declared.State.{State}
 use Rattle.model.specs.Refusals.{Outcome}
-use Rattle.model.specs.Calls.{Call, line, advance, read, write, notification, totals, valuesOf, respond, make}
+use Rattle.model.specs.Calls.{line, advance, read, write, notification, totals, valuesOf, respond, make}
 use Rattle.commands.specs.declared.Command.{Command}
 use Rattle.commands.specs.declared.Command.the-variants.{Make, Line, Advance, Read, Write, Notify, Unreadable}
 use Rattle.commands.specs.Grammar.{commandOf}

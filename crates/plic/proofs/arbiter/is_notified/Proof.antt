@@ -1,10 +1,9 @@
 -- `arbiter::is_notified` meets its contract. The loop's invariant: no source before `i` rouses the context.
 -- Assumes nothing.
-use borrow.Author.Needs.{needs}
-use mathlib.Core.Path.{_≡_, _∙_, refl, sym, ap, ap₂}
-use Prim.Native.Nat.{ℕ, suc, _+_, _-_, _*_, _^_, _%_, _≤_, _<_}
+use mathlib.Core.Path.{_≡_, _∙_, sym, ap, ap₂}
+use Prim.Native.Nat.{suc, _+_, _-_, _≤_}
 use native.Mathlib.Omega.{arith}
-use borrow.Author.Tests.{eq-eqb, ne-eqb, lt-ltb, le-ltb}
+use borrow.Author.Tests.{lt-ltb, le-ltb}
 use mathlib.Core.Bool.{false, _||_}
 use Rattle.laws.specs.Fold.{anyTo}
 use Rattle.laws.proofs.Fold.{any-of, any-more}

@@ -1,7 +1,7 @@
 -- `arbiter::rank_of` meets its contract: each way out is the case that its tests name.
 -- Assumes nothing.
 use borrow.Author.Needs.{needs}
-use mathlib.Core.Path.{_≡_, _∙_, refl, sym, ap}
+use mathlib.Core.Path.{_∙_, sym}
 use borrow.Author.Tests.{eq-eqb, ne-eqb}
 use Rattle.laws.proofs.Truth.{and-intro, and-fails-left, and-fails-right, cond-so, cond-not}
 use lib.Dec.{eqb}

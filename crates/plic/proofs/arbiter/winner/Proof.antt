@@ -1,11 +1,9 @@
 -- `arbiter::winner` meets its contract. The loop's invariant: `won` is the best of the sources before `i`, and `high` its rank.
 -- Assumes nothing.
-use borrow.Author.Needs.{needs}
-use mathlib.Core.Path.{_≡_, _∙_, refl, sym, ap}
-use Prim.Native.Nat.{ℕ, suc, _+_, _-_, _*_, _^_, _%_, _≤_, _<_}
+use mathlib.Core.Path.{_≡_, _∙_, sym, ap}
+use Prim.Native.Nat.{suc, _+_, _-_, _≤_}
 use native.Mathlib.Omega.{arith}
 use mathlib.Core.Logic.{⊎-elim}
-use native.Mathlib.Numerals.{add-one}
 use Rattle.laws.specs.Fold.{best}
 use Rattle.plic.specs.Leaves.{rankIn, winnerIn}
 use Rattle.plic.proofs.Ranks.{rank-in, rank-zero, best-first, better, no-better}

@@ -1,14 +1,11 @@
 -- `board::line_on` meets its contract: the requests after the change are the state's.
 -- Assumes nothing.
-use borrow.Author.Needs.{needs}
-use mathlib.Core.Path.{_≡_, _∙_, refl, sym, ap}
-use Prim.Native.Nat.{ℕ, _+_, _*_, _≤_, _<_}
+use mathlib.Core.Path.{ap}
+use Prim.Native.Nat.{_<_}
 use native.Mathlib.Omega.{arith}
 use Rattle.model.specs.declared.State.{State}
-use Rattle.model.specs.declared.Register.{Register}
-use Rattle.model.specs.declared.Register.the-variants.{Priority, Pending, Enable, Threshold, Claim, Nothing}
-use Rattle.plic.specs.Arrays.{requestsOf, countsOf, bucketsOf, stateOf, Ready}
-use Rattle.model.specs.Board.{kindOf, request, withRequest}
+use Rattle.plic.specs.Arrays.{requestsOf, countsOf, bucketsOf, stateOf}
+use Rattle.model.specs.Board.{kindOf, withRequest}
 use Rattle.model.specs.Life.{lineChange}
 use Rattle.model.proofs.Claim.{source-range}
 use Rattle.plic.specs.Arrays.{lineSet}

@@ -1,13 +1,11 @@
 -- `board::read_on` meets its contract: each arm is the register that the offset decodes to, whose numbers are indices of its arrays.
 -- Assumes nothing.
 use borrow.Author.Needs.{needs}
-use mathlib.Core.Path.{_≡_, _∙_, refl, sym, ap}
-use Prim.Native.Nat.{ℕ, _+_, _*_, _≤_, _<_}
+use mathlib.Core.Path.{_∙_, sym, ap}
+use Prim.Native.Nat.{_≤_}
 use native.Mathlib.Omega.{arith}
 use Rattle.model.specs.declared.State.{State}
-use Rattle.model.specs.declared.Register.{Register}
-use Rattle.model.specs.declared.Register.the-variants.{Priority, Pending, Enable, Threshold, Claim, Nothing}
-use Rattle.plic.specs.Arrays.{requestsOf, countsOf, bucketsOf, stateOf, Ready}
+use Rattle.plic.specs.Arrays.{requestsOf, countsOf, bucketsOf, stateOf}
 use Rattle.model.specs.Board.{priority, threshold, enableWord, request}
 use Rattle.model.specs.Waits.{isPending}
 use Rattle.model.specs.Life.{pendingFor, eligible, rank, winner}

@@ -1,16 +1,14 @@
 -- `board::write_on` meets its contract: each arm is the register that the offset decodes to, whose numbers are indices of its arrays.
 -- Assumes nothing.
 use borrow.Author.Needs.{needs}
-use mathlib.Core.Path.{_≡_, _∙_, refl, sym, ap}
-use Prim.Native.Nat.{ℕ, _+_, _*_, _≤_, _<_}
+use mathlib.Core.Path.{_∙_, sym, ap}
+use Prim.Native.Nat.{ℕ, _+_, _*_, _≤_}
 use native.Mathlib.Omega.{arith}
 use Rattle.model.specs.declared.State.{State}
-use Rattle.model.specs.declared.Register.{Register}
-use Rattle.model.specs.declared.Register.the-variants.{Priority, Pending, Enable, Threshold, Claim, Nothing}
-use Rattle.plic.specs.Arrays.{requestsOf, countsOf, bucketsOf, stateOf, Ready}
+use Rattle.plic.specs.Arrays.{requestsOf, countsOf, bucketsOf, stateOf}
 use lib.ListN.{set}
 use Rattle.model.specs.Board.{withSettings}
-use Rattle.model.specs.Registers.{kept, afterWrite, withPriority, withEnable, withThreshold}
+use Rattle.model.specs.Registers.{afterWrite, withPriority, withEnable, withThreshold}
 use Rattle.plic.proofs.Sounds.{complete-made, at-priority, at-enable, at-threshold, at-claim}
 use Rattle.plic.proofs.board.write_on.Statement.{statement}
 use Rattle.plic.proofs.board.write_on.Tie as tie

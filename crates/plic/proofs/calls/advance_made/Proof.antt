@@ -1,15 +1,9 @@
 -- `calls::advance_made` meets its contract: the clock, and one step more.
 -- Assumes nothing.
 use borrow.Author.Needs.{needs}
-use mathlib.Core.Path.{_≡_, _∙_, refl, sym, ap, ap₂}
-use Prim.Native.Nat.{ℕ, _+_, _*_, _≤_, _<_}
-use native.Mathlib.Omega.{arith}
-use mathlib.Core.List.{List, [], _∷_}
-use lib.ListN.{getD}
-use Rattle.model.specs.declared.State.{State}
+use mathlib.Core.Path.{refl}
 use Rattle.model.specs.Board.{withSteps, withClock}
-use Rattle.model.specs.Refusals.{answerNumber, answerValues, answered, firstOf}
-use Rattle.model.specs.Calls.{advance, isStep, grounds, valuesOf, effect, after}
+use Rattle.model.specs.Calls.{isStep, effect, after}
 use Rattle.model.specs.Life.{advanced}
 use Rattle.plic.proofs.calls.advance_made.Statement.{statement}
 use Rattle.plic.proofs.calls.advance_made.Tie as tie

@@ -1,15 +1,11 @@
 -- `calls::line_made` meets its contract: the step on the sound state, and one step more.
 -- Assumes nothing.
-use borrow.Author.Needs.{needs}
-use mathlib.Core.Path.{_≡_, _∙_, refl, sym, ap, ap₂}
-use Prim.Native.Nat.{ℕ, _+_, _*_, _≤_, _<_}
+use mathlib.Core.Path.{ap}
+use Prim.Native.Nat.{_+_}
 use native.Mathlib.Omega.{arith}
-use mathlib.Core.List.{List, [], _∷_}
-use lib.ListN.{getD}
 use Rattle.model.specs.declared.State.{State}
-use Rattle.model.specs.Board.{withSteps, withClock}
-use Rattle.model.specs.Refusals.{answerNumber, answerValues, answered, firstOf}
-use Rattle.model.specs.Calls.{line, isStep, grounds, valuesOf, effect, after}
+use Rattle.model.specs.Board.{withSteps}
+use Rattle.model.specs.Calls.{isStep, effect, after}
 use Rattle.model.specs.declared.Answer as answers
 use Rattle.plic.proofs.calls.line_made.Statement.{statement}
 use Rattle.plic.proofs.calls.line_made.Tie as tie

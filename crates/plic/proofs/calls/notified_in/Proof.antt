@@ -1,7 +1,6 @@
 -- `calls::notified_in` meets its contract: the arbiter's answer on the state's arrays.
 -- Assumes nothing.
 use borrow.Author.Needs.{needs}
-use mathlib.Core.Path.{_≡_, _∙_, refl, sym, ap, ap₂}
 use native.Mathlib.Omega.{arith}
 use Rattle.model.specs.Board.{request, priority, threshold, enableWord, enabled}
 use Rattle.model.specs.Waits.{isPending}

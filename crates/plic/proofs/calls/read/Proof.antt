@@ -1,10 +1,8 @@
 -- `calls::read` meets its contract: the first refusal that the check finds, or the step.
 -- Assumes nothing.
 use borrow.Author.Needs.{needs}
-use mathlib.Core.Path.{_≡_, _∙_, refl, sym, ap, ap₂}
-use Prim.Native.Nat.{ℕ, _+_, _*_, _≤_, _<_}
+use mathlib.Core.Path.{_∙_, sym, ap}
 use mathlib.Core.Bool.{Bool}
-use mathlib.Core.List.{[], _∷_}
 use Rattle.model.specs.Refusals.{answerNumber, answerValues, answered, firstOf}
 use Rattle.model.specs.Calls.{read, notSound, noStepLeft, offsetAbove, offsetUnaligned, noSuchSource, noSuchContext, clockPast, grounds, valuesOf}
 use Rattle.model.proofs.Calls.{refused-as, accepted-as}

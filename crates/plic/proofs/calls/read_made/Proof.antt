@@ -1,15 +1,11 @@
 -- `calls::read_made` meets its contract: the step on the sound state, and one step more.
 -- Assumes nothing.
-use borrow.Author.Needs.{needs}
-use mathlib.Core.Path.{_≡_, _∙_, refl, sym, ap, ap₂}
-use Prim.Native.Nat.{ℕ, _+_, _*_, _≤_, _<_}
+use Prim.Native.Nat.{_+_}
 use native.Mathlib.Omega.{arith}
-use mathlib.Core.List.{List, [], _∷_}
-use lib.ListN.{getD}
-use Rattle.model.specs.declared.State.{State}
-use Rattle.model.specs.Board.{withSteps, withClock}
-use Rattle.model.specs.Refusals.{answerNumber, answerValues, answered, firstOf}
-use Rattle.model.specs.Calls.{read, isStep, grounds, valuesOf, effect, after}
+use mathlib.Core.List.{[], _∷_}
+use Rattle.model.specs.Board.{withSteps}
+use Rattle.model.specs.Refusals.{answerNumber, answerValues, answered}
+use Rattle.model.specs.Calls.{isStep, valuesOf, effect, after}
 use Rattle.plic.proofs.calls.read_made.Statement.{statement}
 use Rattle.plic.proofs.calls.read_made.Tie as tie
 

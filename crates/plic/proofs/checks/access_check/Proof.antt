@@ -1,12 +1,8 @@
 -- `checks::access_check` meets its contract: each way out is the first ground that holds.
 -- Assumes nothing.
-use borrow.Author.Needs.{needs}
-use mathlib.Core.Path.{_≡_, _∙_, refl, sym, ap, ap₂}
-use Prim.Native.Nat.{ℕ, _+_, _*_, _≤_, _<_}
-use native.Mathlib.Omega.{arith}
+use mathlib.Core.Path.{_∙_, sym, ap}
 use mathlib.Core.Bool.{not}
 use borrow.Author.Tests.{le-leb, lt-leb, lt-ltb, le-ltb, eq-eqb, ne-eqb}
-use Rattle.model.specs.Refusals.{firstOf}
 use Rattle.model.proofs.Calls.{first-hit, first-miss}
 use Rattle.plic.proofs.Answers.{none}
 use Rattle.plic.proofs.checks.access_check.Statement.{statement}

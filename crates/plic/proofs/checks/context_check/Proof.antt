@@ -1,12 +1,8 @@
 -- `checks::context_check` meets its contract: each way out is the first ground that holds.
 -- Assumes nothing.
-use borrow.Author.Needs.{needs}
-use mathlib.Core.Path.{_≡_, _∙_, refl, sym, ap, ap₂}
-use Prim.Native.Nat.{ℕ, _+_, _*_, _≤_, _<_}
-use native.Mathlib.Omega.{arith}
+use mathlib.Core.Path.{_∙_, sym, ap}
 use mathlib.Core.Bool.{not}
-use borrow.Author.Tests.{le-leb, lt-leb, lt-ltb, le-ltb, eq-eqb, ne-eqb}
-use Rattle.model.specs.Refusals.{firstOf}
+use borrow.Author.Tests.{lt-ltb, le-ltb}
 use Rattle.model.proofs.Calls.{first-hit, first-miss}
 use Rattle.plic.proofs.Answers.{none}
 use Rattle.model.specs.Board.{isContext}

@@ -1,9 +1,7 @@
 -- `life::completed` meets its contract: each way out is the case that its tests name.
 -- Assumes nothing.
-use borrow.Author.Needs.{needs}
-use mathlib.Core.Path.{_≡_, _∙_, refl, sym, ap}
+use mathlib.Core.Path.{_∙_, sym}
 use Rattle.laws.proofs.Truth.{cond-so, cond-not}
-use native.Mathlib.Omega.{arith}
 use borrow.Author.Tests.{ltb-true}
 use Rattle.laws.proofs.Truth.{and-right}
 use lib.Dec.{eqb}

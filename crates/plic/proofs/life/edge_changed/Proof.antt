@@ -1,9 +1,9 @@
 -- `life::edge_changed` meets its contract: each way out is the case that its tests name.
 -- Assumes nothing.
 use borrow.Author.Needs.{needs}
-use mathlib.Core.Path.{_≡_, _∙_, refl, sym, ap}
+use mathlib.Core.Path.{_∙_, sym, ap}
 use Rattle.laws.proofs.Truth.{cond-so, cond-not}
-use borrow.Author.Tests.{eq-eqb, ne-eqb, lt-ltb, le-ltb, le-leb, lt-leb}
+use borrow.Author.Tests.{eq-eqb, ne-eqb}
 use Rattle.model.specs.Life.{edgeChanged, edgeCounted, raised, lineAt}
 use Rattle.model.specs.Waits.{isIdle}
 use Rattle.plic.proofs.life.edge_changed.Statement.{statement}

@@ -1,7 +1,6 @@
 -- `life::level_changed` meets its contract: each way out is the case that its test names.
 -- Assumes nothing.
-use borrow.Author.Needs.{needs}
-use mathlib.Core.Path.{_≡_, _∙_, refl, sym, ap}
+use mathlib.Core.Path.{sym}
 use Rattle.laws.proofs.Truth.{cond-so, cond-not}
 use Rattle.model.specs.Life.{levelChanged, raised, lineAt}
 use Rattle.model.specs.Waits.{isIdle}

@@ -1,9 +1,9 @@
 -- `life::line_changed` meets its contract: the kind picks the rule.
 -- Assumes nothing.
 use borrow.Author.Needs.{needs}
-use mathlib.Core.Path.{_≡_, _∙_, refl, sym, ap}
+use mathlib.Core.Path.{_∙_, sym}
 use Rattle.laws.proofs.Truth.{cond-so, cond-not}
-use borrow.Author.Tests.{eq-eqb, ne-eqb, lt-ltb, le-ltb, le-leb, lt-leb}
+use borrow.Author.Tests.{eq-eqb, ne-eqb}
 use Rattle.model.specs.Life.{lineChanged}
 use Rattle.plic.proofs.life.line_changed.Statement.{statement}
 use Rattle.plic.proofs.life.line_changed.Tie as tie

@@ -1,9 +1,9 @@
 -- `life::one_more` meets its contract: each way out is the case that its test names.
 -- Assumes nothing.
 use borrow.Author.Needs.{needs}
-use mathlib.Core.Path.{_≡_, _∙_, refl, sym, ap}
+use mathlib.Core.Path.{sym}
 use Rattle.laws.proofs.Truth.{cond-so, cond-not}
-use borrow.Author.Tests.{eq-eqb, ne-eqb, lt-ltb, le-ltb, le-leb, lt-leb}
+use borrow.Author.Tests.{lt-ltb, le-ltb}
 use Rattle.plic.proofs.life.one_more.Statement.{statement}
 use Rattle.plic.proofs.life.one_more.Tie as tie
 

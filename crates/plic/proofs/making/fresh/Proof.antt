@@ -1,7 +1,6 @@
 -- `making::fresh` meets its contract: every repeat is one.
 -- Assumes nothing.
-use borrow.Author.Needs.{needs}
-use mathlib.Core.Path.{_≡_, _∙_, refl, sym, ap, ap₂}
+use mathlib.Core.Path.{refl}
 use Rattle.model.specs.Board.{freshIn}
 use Rattle.plic.proofs.making.fresh.Statement.{statement}
 use Rattle.plic.proofs.making.fresh.Tie as tie

@@ -1,19 +1,17 @@
 -- `making::make` meets its contract: a shape that fails a check is the refused case, and any other the fresh one.
 -- Assumes nothing.
 use borrow.Author.Needs.{needs}
-use mathlib.Core.Path.{_≡_, _∙_, refl, sym, ap, ap₂}
+use mathlib.Core.Path.{_∙_, sym, ap}
 use native.Mathlib.Omega.{arith}
-use mathlib.Core.Bool.{_&&_, So}
 use mathlib.Core.List.{[], _∷_}
 use lib.ListN.{length}
 use lib.Dec.{eqb}
 use borrow.Author.Tests.{not-true, not-false, eq-eqb, ne-eqb}
 use Rattle.laws.proofs.Truth.{and-intro, and-fails-left, and-fails-right}
 use Rattle.model.specs.Board.{withinLimits, kindsFor, freshIn, shapeOf}
-use Rattle.model.specs.Refusals.{numberOf, answerNumber, answerValues, answered}
+use Rattle.model.specs.Refusals.{answerNumber, answerValues, answered}
 use Rattle.model.specs.Calls.{make}
 use Rattle.model.proofs.Make.{made-when, unmade-when}
-use Rattle.model.specs.declared.Refusal.the-variants.{BadShape}
 use Rattle.model.proofs.Sound.{limits-facts}
 use Rattle.plic.proofs.making.make.Statement.{statement}
 use Rattle.plic.proofs.making.make.Tie as tie

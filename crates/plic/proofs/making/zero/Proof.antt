@@ -1,8 +1,7 @@
 -- `making::zero` meets its contract.
 -- Assumes nothing.
 use borrow.Author.Needs.{needs}
-use mathlib.Core.Path.{_≡_, _∙_, refl, sym, ap, ap₂}
-use Rattle.model.specs.Board.{freshIn, zeroShape, zeroState}
+use Rattle.model.specs.Board.{zeroShape, zeroState}
 use Rattle.plic.proofs.making.zero.Statement.{statement}
 use Rattle.plic.proofs.making.zero.Tie as tie
 

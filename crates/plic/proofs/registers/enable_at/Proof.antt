@@ -1,7 +1,6 @@
 -- `registers::enable_at` meets its contract.
 -- Assumes nothing.
-use borrow.Author.Needs.{needs}
-use mathlib.Core.Path.{_≡_, _∙_, refl, sym, ap}
+use mathlib.Core.Path.{sym}
 use Rattle.laws.proofs.Truth.{cond-so, cond-not}
 use Rattle.model.specs.Registers.{enableAt}
 use Rattle.model.specs.Board.{isWord, isContext}

@@ -1,9 +1,8 @@
 -- `registers::pending_at` meets its contract.
 -- Assumes nothing.
-use borrow.Author.Needs.{needs}
-use mathlib.Core.Path.{_≡_, _∙_, refl, sym, ap}
+use mathlib.Core.Path.{sym}
 use Rattle.laws.proofs.Truth.{cond-so, cond-not}
-use borrow.Author.Tests.{eq-eqb, ne-eqb, lt-ltb, le-ltb, le-leb, lt-leb}
+use borrow.Author.Tests.{le-leb, lt-leb}
 use Rattle.model.specs.Registers.{pendingAt}
 use Rattle.model.specs.Board.{isWord}
 use Rattle.plic.proofs.registers.pending_at.Statement.{statement}

@@ -1,9 +1,9 @@
 -- `registers::register_at` meets its contract: the four regions of the map in turn.
 -- Assumes nothing.
 use borrow.Author.Needs.{needs}
-use mathlib.Core.Path.{_≡_, _∙_, refl, sym, ap}
+use mathlib.Core.Path.{_∙_, sym}
 use Rattle.laws.proofs.Truth.{cond-so, cond-not}
-use borrow.Author.Tests.{eq-eqb, ne-eqb, lt-ltb, le-ltb, le-leb, lt-leb}
+use borrow.Author.Tests.{lt-ltb, le-ltb}
 use Rattle.model.specs.Registers.{decode}
 use Rattle.plic.proofs.registers.register_at.Statement.{statement}
 use Rattle.plic.proofs.registers.register_at.Tie as tie

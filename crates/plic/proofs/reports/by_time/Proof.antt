@@ -1,14 +1,12 @@
 -- `reports::by_time` meets its contract: the first refusal that the check finds, or the walk over the buckets.
 -- Assumes nothing.
 use borrow.Author.Needs.{needs}
-use mathlib.Core.Path.{_≡_, _∙_, refl, sym, ap, ap₂}
-use Prim.Native.Nat.{ℕ, _+_, _*_, _≤_, _<_}
+use mathlib.Core.Path.{_∙_, sym, ap, ap₂}
+use Prim.Native.Nat.{ℕ}
 use native.Mathlib.Omega.{arith}
 use mathlib.Core.Bool.{Bool}
-use mathlib.Core.List.{List, [], _∷_}
-use lib.ListN.{getD}
-use Rattle.laws.specs.Fold.{sumTo}
-use Rattle.model.specs.Waits.{sourceClaims, sourceWaited, boardClaims, boardWaited, bucketClaims, bucketTicks, percentile}
+use mathlib.Core.List.{[], _∷_}
+use Rattle.model.specs.Waits.{sourceClaims, sourceWaited, boardClaims, boardWaited, bucketClaims, bucketTicks}
 use Rattle.model.specs.Refusals.{answerNumber, answerValues, answered, firstOf}
 use Rattle.model.specs.Calls.{byTime, notSound, perMilleOutside, nothingToDivide, isStep, grounds, valuesOf, effect, after}
 use Rattle.model.proofs.Calls.{refused-as, accepted-as}

@@ -1,27 +1,20 @@
 -- `reports::totals` meets its contract: refusal 2, or the clock and the three sums.
 -- Assumes nothing.
 use borrow.Author.Needs.{needs}
-use mathlib.Core.Path.{_≡_, _∙_, refl, sym, ap, ap₂}
-use Prim.Native.Nat.{ℕ, zero, suc, _+_, _-_, _*_, _≤_, _<_}
+use mathlib.Core.Path.{_∙_, sym}
+use Prim.Native.Nat.{_-_}
 use native.Mathlib.Omega.{arith}
-use mathlib.Core.Bool.{So}
-use mathlib.Core.List.{List, [], _∷_}
-use lib.ListN.{getD}
-use borrow.Author.Tests.{not-true, not-false, leb-true}
-use Rattle.laws.specs.Fold.{sumTo}
-use Rattle.laws.proofs.Truth.{and-right}
-use lib.Dec.{leb}
-use Rattle.model.specs.declared.State.{State}
+use mathlib.Core.List.{[], _∷_}
+use borrow.Author.Tests.{not-true, not-false}
 use Rattle.model.specs.declared.Refusal.the-variants.{NotSound}
-use Rattle.model.specs.Waits.{openAge, isPending, sourceClaims, sourceWaited, boardClaims, boardWaited, boardOpen, bucketClaims, bucketTicks, percentile}
+use Rattle.model.specs.Waits.{openAge, isPending, sourceClaims, sourceWaited, boardClaims, boardWaited, boardOpen}
 use Rattle.model.specs.Board.{request}
-use Rattle.model.specs.Sound.{Sound}
-use Rattle.model.specs.Refusals.{numberOf, answerNumber, answerValues, answered, meanNumber, meanValues, averaged, totalsNumber, totalsValues, totalled}
+use Rattle.model.specs.Refusals.{totalsNumber, totalsValues, totalled}
 use Rattle.model.specs.Calls.{totals, isStep, grounds, valuesOf, effect, after}
 use Rattle.model.proofs.Sound.{sound-facts}
 use Rattle.model.proofs.Calls.{refused-as, accepted-as}
-use Rattle.plic.proofs.Answers.{unsound, passes, nothing, something, none}
-use Rattle.plic.proofs.Sounds.{claims-fit, waited-fit}
+use Rattle.plic.proofs.Answers.{unsound, passes, none}
+use Rattle.plic.proofs.Sounds.{claims-fit}
 use Rattle.plic.specs.Leaves.{openAgeIn}
 use Rattle.plic.proofs.reports.totals.Statement.{statement}
 use Rattle.plic.proofs.reports.totals.Tie as tie

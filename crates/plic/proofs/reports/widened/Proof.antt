@@ -1,15 +1,13 @@
 -- `reports::widened` meets its contract. The loop's invariant: the numbers before `k` stand.
 -- Assumes nothing.
 use borrow.Author.Needs.{needs}
-use mathlib.Core.Path.{_≡_, _∙_, refl, sym, ap, ap₂}
-use Prim.Native.Nat.{ℕ, zero, suc, _+_, _-_, _*_, _≤_, _<_}
+use mathlib.Core.Path.{_≡_, _∙_, refl, sym}
+use Prim.Native.Nat.{ℕ, _-_, _≤_, _<_}
 use native.Mathlib.Omega.{arith}
 use lib.ListN.{length, getD, set, length-set}
 use lib.Seq.{ext-getD, getD-set-same, getD-set-other}
 use Rattle.laws.proofs.Fold.{up-to}
 use native.Mathlib.Nat.{ne-of-lt, not-suc-le-zero}
-use native.Mathlib.Numerals.{add-one}
-use mathlib.Core.Path.{subst}
 use Rattle.plic.proofs.reports.widened.Statement.{statement}
 use Rattle.plic.proofs.reports.widened.Tie as tie
 

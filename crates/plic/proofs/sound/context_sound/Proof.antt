@@ -1,7 +1,6 @@
 -- `sound::context_sound` meets its contract: the same tests, joined from the left.
 -- Assumes nothing.
 use borrow.Author.Needs.{needs}
-use mathlib.Core.Path.{_≡_, _∙_, refl, sym, ap, ap₂}
 use mathlib.Core.Bool.{and-assoc, and-true}
 use Rattle.laws.specs.Fold.{allOf}
 use Rattle.model.specs.Board.{isContext}

@@ -1,11 +1,10 @@
 -- `sound::contexts_sound` meets its contract. The loop's invariant: every context before `c` passes.
 -- Assumes nothing.
-use borrow.Author.Needs.{needs}
 use mathlib.Core.Path.{_≡_, _∙_, refl, sym, ap, ap₂}
-use Prim.Native.Nat.{ℕ, _+_, _-_, _*_, _≤_, _<_}
+use Prim.Native.Nat.{_-_, _≤_}
 use native.Mathlib.Omega.{arith}
 use mathlib.Core.Bool.{_&&_}
-use Rattle.laws.specs.Fold.{sumTo, allTo}
+use Rattle.laws.specs.Fold.{allTo}
 use Rattle.laws.proofs.Fold.{all-more}
 use Rattle.plic.specs.Leaves.{soundContextIn}
 use Rattle.plic.proofs.sound.contexts_sound.Statement.{statement}

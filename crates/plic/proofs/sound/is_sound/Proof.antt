@@ -1,12 +1,10 @@
 -- `sound::is_sound` meets its contract: the types hold by the types, and each part of the rest is computed by a loop.
 -- Assumes nothing.
 use borrow.Author.Needs.{needs}
-use mathlib.Core.Path.{_≡_, _∙_, refl, sym, ap, ap₂}
-use native.Mathlib.Omega.{arith}
-use Prim.Native.Nat.{ℕ, _-_, _^_}
+use mathlib.Core.Path.{_∙_, sym, ap, ap₂}
+use Prim.Native.Nat.{ℕ, _-_}
 use mathlib.Core.Bool.{Bool, _&&_, So}
 use borrow.Author.Tests.{not-true, not-false}
-use lib.ListN.{length}
 use Rattle.laws.specs.Fold.{allTo}
 use Rattle.model.specs.declared.State.{State}
 use Rattle.model.specs.Board.{withinLimits, kindOf, request, priority, threshold, enableWord}

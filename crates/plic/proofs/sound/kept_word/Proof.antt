@@ -1,7 +1,6 @@
 -- `sound::kept_word` meets its contract: a word above N's keeps nothing.
 -- Assumes nothing.
-use borrow.Author.Needs.{needs}
-use mathlib.Core.Path.{_≡_, _∙_, refl, sym, ap, ap₂}
+use mathlib.Core.Path.{sym}
 use native.Mathlib.Omega.{arith}
 use Rattle.plic.proofs.Kept.{kept-none}
 use Rattle.plic.proofs.sound.kept_word.Statement.{statement}

@@ -1,7 +1,6 @@
 -- `sound::open_age` meets its contract; where the start lies after the clock both are 0.
 -- Assumes nothing.
-use borrow.Author.Needs.{needs}
-use mathlib.Core.Path.{_≡_, _∙_, refl, sym, ap, ap₂}
+use mathlib.Core.Path.{_∙_, sym}
 use native.Mathlib.Omega.{arith}
 use native.Mathlib.Nat.{sub-eq-zero-of-le}
 use borrow.Author.Tests.{eq-eqb, ne-eqb}

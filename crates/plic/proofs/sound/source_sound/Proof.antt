@@ -1,12 +1,11 @@
 -- `sound::source_sound` meets its contract: the same tests, joined from the left.
 -- Assumes nothing.
 use borrow.Author.Needs.{needs}
-use mathlib.Core.Path.{_≡_, _∙_, refl, sym, ap, ap₂}
+use mathlib.Core.Path.{_∙_, ap₂}
 use Prim.Native.Nat.{ℕ, _+_}
 use mathlib.Core.Bool.{Bool, not, _&&_, _||_}
 use mathlib.Core.List.{List, [], _∷_}
 use lib.Dec.{leb, eqb}
-use Rattle.laws.specs.Fold.{allOf}
 use Rattle.laws.proofs.Fold.{joined, joined-all}
 use Rattle.model.specs.declared.Request.{Request}
 use Rattle.model.specs.Waits.{isPending, isIdle, openAge}

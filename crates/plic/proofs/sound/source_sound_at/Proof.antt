@@ -1,7 +1,6 @@
 -- `sound::source_sound_at` meets its contract.
 -- Assumes nothing.
 use borrow.Author.Needs.{needs}
-use mathlib.Core.Path.{_≡_, _∙_, refl, sym, ap, ap₂}
 use Rattle.model.specs.Board.{isSource}
 use Rattle.plic.specs.Leaves.{soundSourceIn}
 use Rattle.plic.proofs.sound.source_sound_at.Statement.{statement}

@@ -2,10 +2,10 @@
 -- Assumes nothing.
 use borrow.Author.Needs.{needs}
 use mathlib.Core.Path.{_≡_, _∙_, refl, sym, ap, ap₂}
-use Prim.Native.Nat.{ℕ, _+_, _-_, _*_, _≤_, _<_}
+use Prim.Native.Nat.{_+_, _-_, _*_, _≤_}
 use native.Mathlib.Omega.{arith}
 use lib.ListN.{getD}
-use Rattle.laws.specs.Fold.{sumTo, allTo}
+use Rattle.laws.specs.Fold.{sumTo}
 use Rattle.laws.proofs.Fold.{sum-more}
 use Rattle.plic.proofs.sound.source_total.Statement.{statement}
 use Rattle.plic.proofs.sound.source_total.Tie as tie

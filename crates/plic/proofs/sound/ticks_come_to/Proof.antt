@@ -1,12 +1,11 @@
 -- `sound::ticks_come_to` meets its contract. The loop's invariant: what is left and the sum of the elements before `k` make the total.
 -- Assumes nothing.
-use borrow.Author.Needs.{needs}
-use mathlib.Core.Path.{_≡_, _∙_, refl, sym, ap, ap₂}
-use Prim.Native.Nat.{ℕ, _+_, _-_, _*_, _≤_, _<_}
+use mathlib.Core.Path.{_≡_, _∙_, sym, ap}
+use Prim.Native.Nat.{ℕ, _+_, _-_, _≤_, _<_}
 use native.Mathlib.Omega.{arith}
 use lib.ListN.{getD}
 use lib.Dec.{eqb}
-use Rattle.laws.specs.Fold.{sumTo, allTo}
+use Rattle.laws.specs.Fold.{sumTo}
 use Rattle.laws.proofs.Fold.{sum-more, sum-mono}
 use Rattle.laws.proofs.Truth.{same-test}
 use borrow.Author.Tests.{eq-eqb, ne-eqb, eqb-true}

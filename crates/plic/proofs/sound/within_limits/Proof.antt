@@ -1,7 +1,5 @@
 -- `sound::within_limits` meets its contract: the same tests, joined from the left.
 -- Assumes nothing.
-use borrow.Author.Needs.{needs}
-use mathlib.Core.Path.{_≡_, _∙_, refl, sym, ap, ap₂}
 use mathlib.Core.List.{[], _∷_}
 use lib.Dec.{leb}
 use Rattle.laws.proofs.Fold.{joined-all}

@@ -1,13 +1,12 @@
 -- `sound::words_kept` meets its contract. The loop's invariant: every word before `w` is as it is kept.
 -- Assumes nothing.
-use borrow.Author.Needs.{needs}
 use mathlib.Core.Path.{_≡_, _∙_, refl, sym, ap, ap₂}
-use Prim.Native.Nat.{ℕ, _+_, _-_, _*_, _≤_, _<_}
+use Prim.Native.Nat.{_+_, _-_, _*_, _≤_}
 use native.Mathlib.Omega.{arith}
 use mathlib.Core.Bool.{_&&_}
 use lib.ListN.{getD}
 use lib.Dec.{eqb}
-use Rattle.laws.specs.Fold.{sumTo, allTo}
+use Rattle.laws.specs.Fold.{allTo}
 use Rattle.laws.proofs.Fold.{all-more}
 use Rattle.model.specs.Registers.{kept}
 use Rattle.plic.proofs.sound.words_kept.Statement.{statement}

@@ -1,13 +1,12 @@
 -- `sound::words_zero` meets its contract. The loop's invariant: every word before `w` is zero.
 -- Assumes nothing.
-use borrow.Author.Needs.{needs}
-use mathlib.Core.Path.{_≡_, _∙_, refl, sym, ap, ap₂}
-use Prim.Native.Nat.{ℕ, _+_, _-_, _*_, _≤_, _<_}
+use mathlib.Core.Path.{_≡_, _∙_, refl, sym, ap}
+use Prim.Native.Nat.{_+_, _-_, _*_, _≤_}
 use native.Mathlib.Omega.{arith}
 use mathlib.Core.Bool.{_&&_}
 use lib.ListN.{getD}
 use lib.Dec.{eqb}
-use Rattle.laws.specs.Fold.{sumTo, allTo}
+use Rattle.laws.specs.Fold.{allTo}
 use Rattle.laws.proofs.Fold.{all-more}
 use Rattle.plic.proofs.sound.words_zero.Statement.{statement}
 use Rattle.plic.proofs.sound.words_zero.Tie as tie

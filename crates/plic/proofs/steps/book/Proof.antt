@@ -1,12 +1,12 @@
 -- `steps::book` meets its contract: each sum fits by what is required of it.
 -- Assumes nothing.
 use borrow.Author.Needs.{needs}
-use mathlib.Core.Path.{_≡_, _∙_, refl, sym, ap}
+use mathlib.Core.Path.{refl, ap}
 use Prim.Native.Nat.{ℕ, _+_}
 use native.Mathlib.Omega.{arith}
 use lib.ListN.{getD, set}
-use Rattle.model.specs.Waits.{bucketOf, counted, booked}
-use Rattle.plic.specs.Arrays.{countsOf, bucketsOf}
+use Rattle.model.specs.Waits.{counted, booked}
+use Rattle.plic.specs.Arrays.{bucketsOf}
 use Rattle.plic.proofs.steps.book.Statement.{statement}
 use Rattle.plic.proofs.steps.book.Tie as tie
 

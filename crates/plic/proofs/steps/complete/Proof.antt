@@ -1,8 +1,8 @@
 -- `steps::complete` meets its contract: the three stores put the completed request back, and its line is as it was.
 -- Assumes nothing.
 use borrow.Author.Needs.{needs}
-use mathlib.Core.Path.{_≡_, _∙_, refl, sym, ap}
-use mathlib.Core.Bool.{Bool, false}
+use mathlib.Core.Path.{_≡_, _∙_, sym, ap}
+use mathlib.Core.Bool.{false}
 use lib.ListN.{getD, set}
 use lib.Seq.{set-getD}
 use Rattle.model.specs.declared.Request.{Request}

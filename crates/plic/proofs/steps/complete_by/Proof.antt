@@ -1,8 +1,7 @@
 -- `steps::complete_by` meets its contract: each way out is a case of `takesEffectIn`.
 -- Assumes nothing.
-use borrow.Author.Needs.{needs}
-use mathlib.Core.Path.{_≡_, _∙_, refl, sym, ap, subst}
-use Prim.Native.Nat.{ℕ, _+_, _-_, _*_, _^_, _%_, _≤_, _<_}
+use mathlib.Core.Path.{_∙_, sym}
+use Prim.Native.Nat.{_-_}
 use native.Mathlib.Omega.{arith}
 use Rattle.plic.specs.Arrays.{requestsOf}
 use Rattle.plic.proofs.Effects.{no-source, not-enabled, not-serving, takes-effect}

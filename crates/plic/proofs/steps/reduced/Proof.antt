@@ -1,8 +1,8 @@
 -- `steps::reduced` meets its contract: a remainder by at most 32 fits a byte.
 -- Assumes nothing.
 use borrow.Author.Needs.{needs}
-use mathlib.Core.Path.{_≡_, _∙_, refl, sym, ap, subst}
-use Prim.Native.Nat.{ℕ, _+_, _-_, _*_, _^_, _%_, _≤_, _<_}
+use mathlib.Core.Path.{ap}
+use Prim.Native.Nat.{ℕ, _-_, _^_, _%_}
 use native.Mathlib.Omega.{arith}
 use native.Mathlib.Nat.{mod-lt}
 use lib.Pow.{pow-pos, pow-mono}

@@ -1,7 +1,7 @@
 -- `steps::set_line` meets its contract: the four stores put the changed request back.
 -- Assumes nothing.
 use borrow.Author.Needs.{needs}
-use mathlib.Core.Path.{_≡_, _∙_, refl, sym, ap}
+use mathlib.Core.Path.{ap}
 use Rattle.model.specs.Board.{request, setRequest}
 use Rattle.plic.specs.Arrays.{requestsOf, lineSet}
 use Rattle.plic.proofs.steps.set_line.Statement.{statement}

@@ -1,7 +1,7 @@
 -- `waits::upper_end` meets its contract: the code's table is the definition's.
 -- Assumes nothing.
 use borrow.Author.Needs.{needs}
-use mathlib.Core.Path.{_≡_, _∙_, refl, sym, ap}
+use mathlib.Core.Path.{refl}
 use Rattle.model.specs.Waits.{upperEnd, upperEnds}
 use Rattle.plic.proofs.waits.upper_end.Statement.{statement}
 use Rattle.plic.proofs.waits.upper_end.Tie as tie

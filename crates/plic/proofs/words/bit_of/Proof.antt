@@ -1,7 +1,7 @@
 -- `words::bit_of` meets its contract: a shift is a quotient.
 -- Assumes nothing.
 use borrow.Author.Needs.{needs}
-use mathlib.Core.Path.{_≡_, _∙_, refl, sym, ap}
+use mathlib.Core.Path.{refl}
 use Rattle.laws.specs.Bits.{bit}
 use Rattle.plic.proofs.words.bit_of.Statement.{statement}
 use Rattle.plic.proofs.words.bit_of.Tie as tie

@@ -1,8 +1,8 @@
 -- `words::kept_bits` meets its contract, by the law that the low bits are the sources' (proofs/Kept).
 -- Assumes nothing.
 use borrow.Author.Needs.{needs}
-use mathlib.Core.Path.{_≡_, _∙_, refl, sym, ap}
-use Prim.Native.Nat.{ℕ, suc, _+_, _-_, _*_, _^_, _%_, _≤_, _<_}
+use mathlib.Core.Path.{_≡_, _∙_, sym, ap}
+use Prim.Native.Nat.{ℕ, _+_, _-_, _*_, _^_, _%_}
 use native.Mathlib.Omega.{arith}
 use Rattle.model.specs.Registers.{kept}
 use Rattle.plic.proofs.Kept.{kept-cut, kept-first}

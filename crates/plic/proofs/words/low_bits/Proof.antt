@@ -1,8 +1,8 @@
 -- `words::low_bits` meets its contract: below 32 bits a remainder, from there on the whole word.
 -- Assumes nothing.
 use borrow.Author.Needs.{needs}
-use mathlib.Core.Path.{_≡_, _∙_, refl, sym, ap}
-use Prim.Native.Nat.{ℕ, _%_, _^_}
+use mathlib.Core.Path.{sym, ap}
+use Prim.Native.Nat.{ℕ, _%_}
 use native.Mathlib.Nat.{mod-eq-of-lt, mod-le}
 use native.Mathlib.Omega.{arith}
 use lib.Pow.{pow-pos, pow-mono}
