@@ -1,10 +1,11 @@
--- A list of numbers in which one element has changed.
+-- A list of numbers in which one element, or a run of them, has changed.
 -- Assumes nothing.
 use mathlib.Core.Path.{_≡_, _∙_, sym, ap}
-use mathlib.Core.List.{List}
-use Prim.Native.Nat.{ℕ, _+_, _<_}
+use mathlib.Core.List.{List, [], _∷_, _++_}
+use Prim.Native.Nat.{ℕ, suc, _+_, _<_}
+use native.Mathlib.Nat.{add-zero, suc-add, add-suc}
 use lib.ListN.{length, getD, set}
-use lib.Seq.{getD-set-same, getD-set-other}
+use lib.Seq.{sets, getD-set-same, getD-set-other}
 use Rattle.laws.specs.Fold.{sumTo}
 use Rattle.laws.proofs.Fold.{sum-change}
 
@@ -14,3 +15,10 @@ pub list-sum : (l : List ℕ) (n i x : ℕ) → i < n → i < length l →
 list-sum l n i x h k =
     sum-change (λ j. getD l j 0) (λ j. getD (set l i x) j 0) n i h (λ j ne. sym (getD-set-other l i j x 0 ne))
     ∙ ap (λ (y : ℕ). sumTo (λ j. getD l j 0) n + y) (getD-set-same l i x 0 k)
+
+-- a text stored in two parts
+pub sets-append : (l : List ℕ) (at : ℕ) (xs ys : List ℕ) → sets l at (xs ++ ys) ≡ sets (sets l at xs) (at + length xs) ys
+sets-append l at [] ys = ap (λ (k : ℕ). sets l k ys) (sym (add-zero at))
+sets-append l at (x ∷ xs) ys =
+    sets-append (set l at x) (suc at) xs ys
+    ∙ ap (λ (k : ℕ). sets (sets (set l at x) (suc at) xs) k ys) (suc-add at (length xs) ∙ sym (add-suc at (length xs)))

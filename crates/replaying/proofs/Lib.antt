@@ -1,3 +1,4 @@
+pub mod Print
 pub mod Chunks
 pub mod Example
 pub mod Boards

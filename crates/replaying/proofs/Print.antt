@@ -1,0 +1,85 @@
+-- The digits of a number, one after the other, and how many there are; and text written part by part.
+-- Assumes nothing.
+use mathlib.Core.Path.{_≡_, _∙_, refl, sym, ap, subst}
+use mathlib.Core.Bool.{cond}
+use mathlib.Core.List.{List, [], _∷_, _++_}
+use Prim.Native.Nat.{ℕ, zero, suc, _+_, _*_, _/_, _%_, _^_, _≤_, _<_}
+use native.Mathlib.Nat.{div-add-mod, pow-suc}
+use native.Mathlib.Omega.{arith}
+use lib.Dec.{ltb}
+use lib.ListN.{length, set, length-append}
+use lib.Seq.{sets, length-sets}
+use borrow.Author.Tests.{lt-ltb, le-ltb, le-leb, lt-leb}
+use Rattle.laws.proofs.Lists.{sets-append}
+use Rattle.laws.proofs.Truth.{cond-so, cond-not, cond-elim}
+use Rattle.replaying.specs.Replay.{digitsIn, digits}
+use Rattle.replaying.specs.Text.{Written, put}
+
+tenth : (k n : ℕ) → n < 10 ^ suc k → n / 10 < 10 ^ k
+tenth k n h = omega (arith, div-add-mod n 10, pow-suc 10 k, h)
+
+-- one digit
+pub digits-one : (n : ℕ) → n < 10 → digits n ≡ (48 + n) ∷ []
+unfolding digits digitsIn
+digits-one n h = cond-so _ _ (lt-ltb n 10 h)
+
+-- a place more than is needed makes no difference
+spare : (k n : ℕ) → n < 10 ^ suc k → digitsIn (suc (suc k)) n ≡ digitsIn (suc k) n
+unfolding digitsIn
+spare zero n h = cond-so _ _ (lt-ltb n 10 h) ∙ sym (cond-so _ _ (lt-ltb n 10 h))
+spare (suc k) n h = ap (λ (l : List ℕ). cond (ltb n 10) ((48 + n) ∷ []) (l ++ ((48 + n % 10) ∷ []))) (spare k (n / 10) (tenth (suc k) n h))
+
+-- the digits before the last, and the last
+pub digits-more : (n : ℕ) → 10 ≤ n → n < 18446744073709551616 → digits n ≡ digits (n / 10) ++ ((48 + n % 10) ∷ [])
+unfolding digits
+digits-more n h k =
+    first
+    ∙ ap (λ (l : List ℕ). l ++ ((48 + n % 10) ∷ [])) (sym (spare 18 (n / 10) (tenth 19 n (omega (arith, k)))))
+  where
+    first : digitsIn 20 n ≡ digitsIn 19 (n / 10) ++ ((48 + n % 10) ∷ [])
+    first = unfold digitsIn in cond-not _ _ (le-ltb n 10 h)
+
+few : (j k n : ℕ) → n < 10 ^ suc k → length (digitsIn j n) ≤ suc k
+unfolding digitsIn
+few zero k n h = omega arith
+few (suc j) zero n h = subst (λ (l : List ℕ). length l ≤ 1) (sym (cond-so _ _ (lt-ltb n 10 h))) (omega arith)
+few (suc j) (suc k) n h = cond-elim (λ (l : List ℕ). length l ≤ suc (suc k)) (ltb n 10) {x = (48 + n) ∷ []} {y = digitsIn j (n / 10) ++ ((48 + n % 10) ∷ [])}
+    (λ _. omega arith)
+    (λ _. omega (arith, length-append (digitsIn j (n / 10)) ((48 + n % 10) ∷ []), few j k (n / 10) (tenth (suc k) n h)))
+
+-- how many digits there are
+pub digits-narrow : (n : ℕ) → n ≤ 4294967295 → length (digits n) ≤ 10
+unfolding digits
+digits-narrow n h = few 20 9 n (omega (arith, h))
+
+pub digits-wide : (n : ℕ) → n < 18446744073709551616 → length (digits n) ≤ 20
+unfolding digits
+digits-wide n h = few 20 19 n (omega (arith, h))
+
+-- what was written has the length that it had
+pub written-length : {l out : List ℕ} {at end : ℕ} {text : List ℕ} → Written l out at end text → length out ≡ length l
+written-length {l} {at = at} {text = text} w = ap length (w .bytes) ∙ length-sets l at text
+
+-- one text after another, and one byte after a text
+pub written-then : {l mid out : List ℕ} {at place end : ℕ} {xs ys : List ℕ} →
+    Written l mid at place xs → Written mid out place end ys → Written l out at end (xs ++ ys)
+written-then {l} {at = at} {xs = xs} {ys = ys} v w = record {
+  bytes = w .bytes ∙ (λ i. sets (v .bytes i) (v .place i) ys) ∙ sym (sets-append l at xs ys);
+  place = omega (arith, v .place, w .place, length-append xs ys);
+}
+
+pub written-byte : {l out : List ℕ} {at end : ℕ} {xs : List ℕ} (b : ℕ) → Written l out at end xs → Written l (set out end b) at (end + 1) (xs ++ (b ∷ []))
+written-byte b v = written-then v (record { bytes = refl; place = refl })
+
+-- text written where there is room is what `put` says
+pub put-written : {l out : List ℕ} {at end : ℕ} {text : List ℕ} (room : ℕ) → at + room ≤ length l → Written l out at end text →
+    record { bytes = out; end = end } ≡ put room text l at
+unfolding put
+put-written {l} {at = at} {text = text} room h w = λ i. record {
+  bytes = (w .bytes ∙ sym (cond-so (sets l at text) l (le-leb _ _ h))) i;
+  end = (w .place ∙ sym (cond-so (at + length text) at (le-leb _ _ h))) i;
+}
+
+pub put-nothing : (l : List ℕ) (at room : ℕ) (text : List ℕ) → length l < at + room → record { bytes = l; end = at } ≡ put room text l at
+unfolding put
+put-nothing l at room text h = λ i. record { bytes = sym (cond-not {A = List ℕ} (sets l at text) l (lt-leb _ _ h)) i; end = sym (cond-not {A = ℕ} (at + length text) at (lt-leb _ _ h)) i }
