@@ -1,3 +1,4 @@
 pub mod Leaves
 pub mod Arrays
 pub mod Checks
+pub mod Engine

@@ -6,6 +6,7 @@ mod calls;
 mod checks;
 mod life;
 mod making;
+mod obey;
 mod registers;
 mod reports;
 mod sound;

@@ -1,0 +1,35 @@
+-- What a command of a script does to the arrays that hold a sound state, in the words of the replay's definition.
+-- Assumes nothing.
+use mathlib.Core.Path.{_≡_}
+use mathlib.Core.Bool.{true, cond}
+use mathlib.Core.List.{List}
+use Prim.Native.Nat.{ℕ, _+_}
+use lib.Dec.{eqb}
+use lib.ListN.{getD}
+use Rattle.model.specs.declared.State.{State}
+use Rattle.model.specs.Refusals.{firstOf}
+use Rattle.commands.specs.declared.Command.{Command}
+use Rattle.replaying.specs.declared.Said.{Said}
+use Rattle.replaying.specs.declared.Said.the-variants.{Nothing, Value, Refused}
+use Rattle.replaying.specs.Replay.{on, commanded}
+use Rattle.replaying.specs.Text.{saidBytes}
+use Rattle.plic.specs.declared.obey.Did.{Did}
+use Rattle.plic.specs.Leaves.{notifiedIn}
+use Rattle.plic.specs.Checks.{advanceGrounds, contextGrounds}
+
+-- a command takes state s to state t and says so much
+abbrev pub Obeyed : Command → State → State → Said → Type 0
+Obeyed c s t said = commanded c s ≡ record { stand = on t; prints = saidBytes said }
+
+-- an advance and a notification concern few of the numbers
+unfoldable pub advanceDid : ℕ → ℕ → ℕ → Did
+advanceDid clock steps ticks =
+    cond (eqb (firstOf (advanceGrounds true steps clock ticks)) 0)
+    (record { clock = clock + ticks; steps = steps + 1; said = Nothing })
+    (record { clock = clock; steps = steps; said = Refused (firstOf (advanceGrounds true steps clock ticks)) })
+
+unfoldable pub notifySaid : ℕ → ℕ → List ℕ → List ℕ → List ℕ → List ℕ → ℕ → Said
+notifySaid n m stage prio enable threshold c =
+    cond (eqb (firstOf (contextGrounds true m c)) 0)
+    (Value 78 (cond (notifiedIn n stage prio enable (getD threshold c 0) c) 1 0))
+    (Refused (firstOf (contextGrounds true m c)))
