@@ -4,5 +4,6 @@ pub mod Effects
 pub mod Sounds
 pub mod Answers
 pub mod Obeyed
+pub mod Going
 pub mod Once
 pub mod Accepted

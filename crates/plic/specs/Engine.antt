@@ -2,18 +2,20 @@
 -- Assumes nothing.
 use mathlib.Core.Path.{_≡_}
 use mathlib.Core.Bool.{true, cond}
-use mathlib.Core.List.{List}
-use Prim.Native.Nat.{ℕ, _+_}
+use mathlib.Core.List.{List, []}
+use Prim.Native.Nat.{ℕ, _+_, _*_, _≤_}
 use lib.Dec.{eqb}
-use lib.ListN.{getD}
+use lib.ListN.{length, getD, take, drop}
 use Rattle.model.specs.declared.State.{State}
 use Rattle.model.specs.Refusals.{firstOf}
 use Rattle.commands.specs.declared.Command.{Command}
 use Rattle.replaying.specs.declared.Said.{Said}
 use Rattle.replaying.specs.declared.Said.the-variants.{Nothing, Value, Refused}
-use Rattle.replaying.specs.Replay.{on, commanded}
-use Rattle.replaying.specs.Text.{saidBytes}
+use Rattle.replaying.specs.Replay.{on, commanded, Replay, fedAll}
+use Rattle.replaying.specs.Text.{saidBytes, Written}
+use Rattle.replaying.specs.Pieces.{lineLength, lineFeeds}
 use Rattle.plic.specs.declared.obey.Did.{Did}
+use Rattle.plic.specs.declared.lines.Went.{Went}
 use Rattle.plic.specs.Leaves.{notifiedIn}
 use Rattle.plic.specs.Checks.{advanceGrounds, contextGrounds}
 
@@ -33,3 +35,16 @@ notifySaid n m stage prio enable threshold c =
     cond (eqb (firstOf (contextGrounds true m c)) 0)
     (Value 78 (cond (notifiedIn n stage prio enable (getD threshold c 0) c) 1 0))
     (Refused (firstOf (contextGrounds true m c)))
+
+-- a replay on a board, where no line has begun and nothing is printed yet
+abbrev pub boarded : State → Replay
+boarded s = record { stand = on s; begun = []; printed = [] }
+
+-- all the lines that end in an input have been fed, and what they print stands in the output from a place on
+pub record Gone (s : State) (input out out′ : List ℕ) (from : ℕ) (w : Went) : Type 0 where
+  pub within : w .at ≤ length input
+  pub rest : lineLength (drop (w .at) input) ≡ length (drop (w .at) input)
+  pub stands : fedAll (boarded s) (take (w .at) input) .stand ≡ on (w .state)
+  pub fresh : fedAll (boarded s) (take (w .at) input) .begun ≡ []
+  pub prints : Written out out′ from (w .written) (fedAll (boarded s) (take (w .at) input) .printed)
+  pub room : w .written ≤ from + 20 * lineFeeds (take (w .at) input)

@@ -5,6 +5,7 @@ mod board;
 mod calls;
 mod checks;
 mod life;
+mod lines;
 mod making;
 mod obey;
 mod registers;

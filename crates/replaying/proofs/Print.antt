@@ -13,7 +13,7 @@ use borrow.Author.Tests.{lt-ltb, le-ltb, le-leb, lt-leb}
 use Rattle.laws.proofs.Lists.{sets-append}
 use Rattle.laws.proofs.Truth.{cond-so, cond-not, cond-elim}
 use Rattle.replaying.specs.Replay.{digitsIn, digits}
-use Rattle.replaying.specs.Text.{Written, put}
+use Rattle.replaying.specs.Text.{Written, Put, put}
 
 tenth : (k n : ℕ) → n < 10 ^ suc k → n / 10 < 10 ^ k
 tenth k n h = omega (arith, div-add-mod n 10, pow-suc 10 k, h)
@@ -83,3 +83,12 @@ put-written {l} {at = at} {text = text} room h w = λ i. record {
 pub put-nothing : (l : List ℕ) (at room : ℕ) (text : List ℕ) → length l < at + room → record { bytes = l; end = at } ≡ put room text l at
 unfolding put
 put-nothing l at room text h = λ i. record { bytes = sym (cond-not {A = List ℕ} (sets l at text) l (lt-leb _ _ h)) i; end = sym (cond-not {A = ℕ} (at + length text) at (lt-leb _ _ h)) i }
+
+-- what `put` says, where there is room
+pub written-put : (room : ℕ) (text l out : List ℕ) (at end : ℕ) → at + room ≤ length l → record { bytes = out; end = end } ≡ put room text l at →
+    Written l out at end text
+unfolding put
+written-put room text l out at end h e = record {
+  bytes = ap (λ (p : Put). p .bytes) e ∙ cond-so _ _ (le-leb _ _ h);
+  place = ap (λ (p : Put). p .end) e ∙ cond-so _ _ (le-leb _ _ h);
+}

@@ -44,7 +44,7 @@ fn put_digits(v: u64, output: &mut [u8], at: usize) -> usize
 // `refused` and a number.
 fn put_refused(number: u32, output: &mut [u8], at: usize) -> usize
     requires { ⌜ at + 20 ≤ length (now output) ⌝ }
-    ensures { λ r. ⌜ Written (now (output .entry)) (now (output .exit)) at r (refusedLine number) ⌝ }
+    ensures { λ r. ⌜ Written (now (output .entry)) (now (output .exit)) at r (refusedLine number) × (r ≤ at + 20) ⌝ }
 {
     let from = put_text(b"refused ", output, at);
     let end = put_digits(wide(number), output, from);
@@ -55,7 +55,7 @@ fn put_refused(number: u32, output: &mut [u8], at: usize) -> usize
 // A letter and a value.
 fn put_value(letter: u8, v: u32, output: &mut [u8], at: usize) -> usize
     requires { ⌜ at + 20 ≤ length (now output) ⌝ }
-    ensures { λ r. ⌜ Written (now (output .entry)) (now (output .exit)) at r (valueLine letter v) ⌝ }
+    ensures { λ r. ⌜ Written (now (output .entry)) (now (output .exit)) at r (valueLine letter v) × (r ≤ at + 20) ⌝ }
 {
     output[at] = letter;
     output[at + 1] = b' ';
@@ -67,7 +67,7 @@ fn put_value(letter: u8, v: u32, output: &mut [u8], at: usize) -> usize
 // Puts what a line prints at a place of the output and returns the place after it; where fewer than 20 bytes are free there, it
 // leaves the output and returns the place.
 pub fn put_said(said: Said, output: &mut [u8], at: usize) -> usize
-    ensures { λ r. ⌜ record { bytes = now (output .exit); end = r } ≡ put 20 (saidBytes said) (now (output .entry)) at ⌝ }
+    ensures { λ r. ⌜ (record { bytes = now (output .exit); end = r } ≡ put 20 (saidBytes said) (now (output .entry)) at) × (r ≤ at + 20) ⌝ }
 {
     if output.len() < 20 {
         return at;

@@ -50,7 +50,7 @@ returns c =
     let out = set (c .before .before .put-digits .last .1 .0) (c .before .before .put-digits .result) 10 in
     let all : Written (c .before .before .before .before .before .before .before .before .before .before .before .args .output .now) out (c .before .before .before .before .before .before .before .before .before .before .before .args .at) (c .before .before .put-digits .result + 1) (refusedLine (c .before .before .before .before .wide .result)) =
     written-byte 10 (written-then (c .before .before .before .before .before .before .before .put-text .ensures) (c .before .before .put-digits .ensures)) in
-    subst (λ (n : ℕ). Written (c .before .before .before .before .before .before .before .before .before .before .before .args .output .now) out (c .before .before .before .before .before .before .before .before .before .before .before .args .at) (c .before .before .put-digits .result + 1) (refusedLine n)) (c .before .before .before .before .wide .ensures .0) all
+    (subst (λ (n : ℕ). Written (c .before .before .before .before .before .before .before .before .before .before .before .args .output .now) out (c .before .before .before .before .before .before .before .before .before .before .before .args .at) (c .before .before .put-digits .result + 1) (refusedLine n)) (c .before .before .before .before .wide .ensures .0) all, omega (arith, digits-narrow (c .before .before .before .before .wide .result) (c .before .before .before .before .wide .ensures .1), c .before .before .before .before .before .before .before .put-text .ensures .place, c .before .before .put-digits .ensures .place))
 
 pub put-refused-spec : {M : Type 1} → statement M
 put-refused-spec =

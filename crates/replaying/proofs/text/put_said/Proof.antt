@@ -17,7 +17,7 @@ use Rattle.replaying.proofs.text.put_value.Reads as put-value-reads
 
 -- src/text.rt:73:9
 returns : tie.Need-returns
-returns c = put-nothing (c .before .before .args .output .now) (c .before .before .args .at) 20 (saidBytes (c .before .before .args .said)) (omega arith)
+returns c = (put-nothing (c .before .before .args .output .now) (c .before .before .args .at) 20 (saidBytes (c .before .before .args .said)) (omega arith), omega arith)
 
 -- src/text.rt:75:8
 sub-if2 : tie.Need-sub-if2
@@ -25,7 +25,7 @@ sub-if2 c = search needs
 
 -- src/text.rt:76:9
 returns-2 : tie.Need-returns-2
-returns-2 c = put-nothing (c .before .before .before .args .output .now) (c .before .before .before .args .at) 20 (saidBytes (c .before .before .before .args .said)) (omega arith)
+returns-2 c = (put-nothing (c .before .before .before .args .output .now) (c .before .before .before .args .at) 20 (saidBytes (c .before .before .before .args .said)) (omega arith), omega arith)
 
 -- src/text.rt:79:26
 enum-told : tie.Need-enum-told
@@ -52,7 +52,7 @@ returns-3 : tie.Need-returns-3
 unfolding saidBytes
 returns-3 c =
     let a = c .before .before .before .before .before .args in
-    put-written 20 (omega arith) (subst (Written (a .output .now) (a .output .now) (a .at) (a .at)) (ap saidBytes (sym (c .enum-told .given .1))) (record { bytes = refl; place = sym (add-zero (a .at)) }))
+    (put-written 20 (omega arith) (subst (Written (a .output .now) (a .output .now) (a .at) (a .at)) (ap saidBytes (sym (c .enum-told .given .1))) (record { bytes = refl; place = sym (add-zero (a .at)) })), omega arith)
 
 -- src/text.rt:69:1
 same-length : tie.Need-same-length
@@ -64,7 +64,7 @@ unfolding saidBytes
 returns-4 c =
     let a = c .before .before .before .before .before .before .before .before .before .before .args in
     let call = c .before .before .put-value in
-    put-written 20 (omega arith) (subst (Written (a .output .now) (call .last .1 .1 .0) (a .at) (call .result)) (ap saidBytes (sym (c .before .before .before .before .before .said .given .1))) (call .ensures))
+    (put-written 20 (omega arith) (subst (Written (a .output .now) (call .last .1 .1 .0) (a .at) (call .result)) (ap saidBytes (sym (c .before .before .before .before .before .said .given .1))) (call .ensures .0)), call .ensures .1)
 
 -- src/text.rt:69:1
 same-length-2 : tie.Need-same-length-2
@@ -76,7 +76,7 @@ unfolding saidBytes
 returns-5 c =
     let a = c .before .before .before .before .before .before .before .before .before .before .args in
     let call = c .before .before .put-refused in
-    put-written 20 (omega arith) (subst (Written (a .output .now) (call .last .1 .0) (a .at) (call .result)) (ap saidBytes (sym (c .before .before .before .before .before .said2 .given .1))) (call .ensures))
+    (put-written 20 (omega arith) (subst (Written (a .output .now) (call .last .1 .0) (a .at) (call .result)) (ap saidBytes (sym (c .before .before .before .before .before .said2 .given .1))) (call .ensures .0)), call .ensures .1)
 
 pub put-said-spec : {M : Type 1} → statement M
 put-said-spec =

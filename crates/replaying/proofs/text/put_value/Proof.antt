@@ -66,7 +66,7 @@ returns c =
     let out = set (c .before .before .put-digits .last .1 .0) (c .before .before .put-digits .result) 10 in
     let all : Written (a .output .now) out (a .at) (c .before .before .put-digits .result + 1) (valueLine (a .letter) (c .before .before .before .before .wide .result)) =
     written-byte 10 (written-then (two-written (a .output .now) (a .at) (a .letter)) (c .before .before .put-digits .ensures)) in
-    subst (λ (n : ℕ). Written (a .output .now) out (a .at) (c .before .before .put-digits .result + 1) (valueLine (a .letter) n)) (c .before .before .before .before .wide .ensures .0) all
+    (subst (λ (n : ℕ). Written (a .output .now) out (a .at) (c .before .before .put-digits .result + 1) (valueLine (a .letter) n)) (c .before .before .before .before .wide .ensures .0) all, omega (arith, digits-narrow (c .before .before .before .before .wide .result) (c .before .before .before .before .wide .ensures .1), c .before .before .put-digits .ensures .place))
 
 pub put-value-spec : {M : Type 1} → statement M
 put-value-spec =

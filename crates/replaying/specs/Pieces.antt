@@ -1,0 +1,100 @@
+-- A script that comes in pieces: what is held of a replay from one piece to the next, and what a piece does to it.
+-- Assumes nothing.
+use mathlib.Core.Path.{_≡_}
+use mathlib.Core.Bool.{Bool, true, cond}
+use mathlib.Core.List.{List, [], _∷_, _++_}
+use Prim.Native.Nat.{ℕ, suc, _+_, _/_}
+use lib.Dec.{leb, eqb}
+use lib.ListN.{length, take, replicate}
+use lib.Seq.{sets}
+use Rattle.laws.specs.Fold.{allOf}
+use Rattle.model.specs.declared.State.{State}
+use Rattle.model.specs.Board.{zeroState}
+use Rattle.model.specs.Refusals.{numberOf}
+use Rattle.model.specs.Sound.{sound}
+use Rattle.replaying.specs.declared.Place.{Place}
+use Rattle.replaying.specs.declared.Place.the-variants.{Before, On, Ended}
+use Rattle.replaying.specs.declared.Taken.{Taken}
+use Rattle.replaying.specs.declared.Taken.the-variants.{Bytes, Refused}
+use Rattle.replaying.specs.declared.Replaying.{Replaying}
+use Rattle.replaying.specs.declared.Fed.{Fed}
+use Rattle.replaying.specs.Replay.{Stand, before, on, ended, Replay, fedAll, lastIn, finished}
+
+-- how many bytes stand before the first line feed; all of them where there is none
+unfoldable pub lineLength : List ℕ → ℕ
+lineLength [] = 0
+lineLength (b ∷ bs) = cond (eqb b 10) 0 (suc (lineLength bs))
+
+-- how many line feeds there are
+unfoldable pub lineFeeds : List ℕ → ℕ
+lineFeeds [] = 0
+lineFeeds (b ∷ bs) = cond (eqb b 10) 1 0 + lineFeeds bs
+
+-- the replay that is held, with nothing printed yet
+unfoldable pub standOf : Place → State → Stand
+standOf Before s = before
+standOf On s = on s
+standOf Ended s = ended
+
+unfoldable pub shown : Replaying → Replay
+shown r = record { stand = standOf (r .place) (r .state); begun = take (r .held) (r .begun); printed = [] }
+
+-- how a replay is held: off a board the state is zero throughout; of the line that has begun the first 256 bytes are kept, since a
+-- line over 255 bytes is unreadable whatever it holds; after the end no line matters
+unfoldable pub padded : List ℕ → List ℕ
+padded l = take 256 (l ++ replicate 256 0)
+
+unfoldable pub kept : Stand → List ℕ → Replaying
+kept before l = record { place = Before; state = zeroState; begun = padded l; held = length (take 256 l) }
+kept (on s) l = record { place = On; state = s; begun = padded l; held = length (take 256 l) }
+kept ended l = record { place = Ended; state = zeroState; begun = padded []; held = 0 }
+
+-- a replay that can go on: no more is held than there is room for, it is of one line, and a board is sound
+unfoldable pub boardSound : Place → State → Bool
+boardSound Before s = true
+boardSound On s = sound s
+boardSound Ended s = true
+
+unfoldable pub fit : Replaying → Bool
+fit r = allOf (leb (r .held) 256 ∷ eqb (lineLength (take (r .held) (r .begun))) (r .held) ∷ boardSound (r .place) (r .state) ∷ [])
+
+-- what a piece comes to: the number of its refusal (0 where it is accepted), how many bytes were taken and printed, the replay after
+-- it, and the output
+pub record Feeding : Type 0 where
+  pub number : ℕ
+  pub values : List ℕ
+  pub replay : Replaying
+  pub output : List ℕ
+
+unfoldable pub takenNumber : Taken → ℕ
+takenNumber (Bytes taken printed) = 0
+takenNumber (Refused r) = numberOf r
+
+unfoldable pub takenValues : Taken → List ℕ
+takenValues (Bytes taken printed) = taken ∷ printed ∷ []
+takenValues (Refused r) = 0 ∷ 0 ∷ []
+
+unfoldable pub fedOf : Fed → List ℕ → Feeding
+fedOf f output = record { number = takenNumber (f .taken); values = takenValues (f .taken); replay = f .replay; output = output }
+
+-- of a piece as many bytes are taken as the output surely has room for, at 20 bytes for the answer that a byte may end
+unfoldable pub partOf : List ℕ → List ℕ → List ℕ
+partOf input output = take (length output / 20) input
+
+unfoldable pub accepted : Replay → ℕ → List ℕ → Feeding
+accepted after taken output = record {
+  number = 0;
+  values = taken ∷ length (after .printed) ∷ [];
+  replay = kept (after .stand) (after .begun);
+  output = sets output 0 (after .printed);
+}
+
+unfoldable pub feeding : Replaying → List ℕ → List ℕ → Feeding
+feeding r input output =
+    cond (fit r)
+    (accepted (fedAll (shown r) (partOf input output)) (length (partOf input output)) output)
+    (record { number = 2; values = 0 ∷ 0 ∷ []; replay = r; output = output })
+
+-- the end of the script
+unfoldable pub ending : Replaying → List ℕ
+ending r = cond (fit r) (finished (lastIn (shown r .begun) (shown r))) []
