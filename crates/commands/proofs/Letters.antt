@@ -1,19 +1,19 @@
--- The laws of a line's first word: each letter has its form, and any other word has none.
+-- The laws of a line's first word: each letter has its form, and any other word has none; and what a line asks for by its letter.
 -- Assumes nothing.
-use mathlib.Core.Path.{_≡_, _∙_, refl, ap}
+use mathlib.Core.Path.{_≡_, _∙_, refl, sym, ap, subst}
 use mathlib.Core.Bool.{Bool, true, false, cond, _&&_}
 use mathlib.Core.Logic.{⊎-elim}
 use mathlib.Core.List.{List, [], _∷_}
 use Prim.Native.Nat.{ℕ, _≤_, _<_}
 use native.Mathlib.Omega.{arith}
-use lib.Dec.{eqb}
+use lib.Dec.{eqb, ltb}
 use lib.ListN.{length, getD, drop}
-use borrow.Author.Tests.{ne-eqb, lt-ltb, le-ltb}
+use borrow.Author.Tests.{ne-eqb, eqb-true, eqb-false, lt-ltb, le-ltb, ltb-true, ltb-false}
 use Rattle.laws.proofs.Truth.{dichotomy, not-so, cond-so, cond-not, cond-elim}
 use Rattle.commands.specs.declared.Command.{Command}
 use Rattle.commands.specs.declared.Command.the-variants.{Line, Advance, Read, Write, Notify, Unreadable}
 use Rattle.commands.specs.Grammar.{isNumber, decimal, isOffset, hex, isByte, joinFirst, words, ofTwo, ofThree, ofFive, ofWords, commandOf}
-use Rattle.commands.specs.Leaves.{valued, ended, advanceOf, notifyOf, readOf, writeOf, levelOf, lineOf, kindsOf, makeOf}
+use Rattle.commands.specs.Leaves.{valued, ended, advanceOf, notifyOf, readOf, writeOf, levelOf, lineOf, kindsOf, makeOf, letterOf}
 use Rattle.commands.proofs.Words.{cond-same}
 
 -- the words after a letter that takes one
@@ -116,7 +116,7 @@ two-bytes [] h = absurd (omega arith)
 two-bytes (x ∷ []) h = absurd (omega arith)
 two-bytes (x ∷ y ∷ l) h = refl
 
-pub command-long : (l : List ℕ) → 255 < length l → commandOf l ≡ Unreadable
+command-long : (l : List ℕ) → 255 < length l → commandOf l ≡ Unreadable
 unfolding commandOf
 command-long l h = cond-so _ _ (lt-ltb _ _ h)
 
@@ -124,7 +124,7 @@ command-of : (l : List ℕ) → length l ≤ 255 → commandOf l ≡ ofWords (le
 unfolding commandOf
 command-of l h = cond-not _ _ (le-ltb _ _ h)
 
-pub command-short : (l : List ℕ) → length l < 2 → commandOf l ≡ Unreadable
+command-short : (l : List ℕ) → length l < 2 → commandOf l ≡ Unreadable
 unfolding ofWords words joinFirst
 command-short [] h = command-of [] (omega arith)
 command-short (x ∷ []) h =
@@ -136,7 +136,7 @@ module _ (l : List ℕ) (short : length l ≤ 255) (enough : 2 ≤ length l) whe
   command-at : commandOf l ≡ ofWords (length l) (words (getD l 0 0 ∷ getD l 1 0 ∷ drop 2 l))
   command-at = command-of l short ∙ ap (λ (m : List ℕ). ofWords (length l) (words m)) (two-bytes l enough)
 
-  pub command-unspaced : (getD l 1 0 ≡ 32 → ⊥) → commandOf l ≡ Unreadable
+  command-unspaced : (getD l 1 0 ≡ 32 → ⊥) → commandOf l ≡ Unreadable
   unfolding words joinFirst
   command-unspaced h =
       command-at ∙ by-cases (getD l 0 0) (getD l 1 0) (eqb (getD l 0 0) 32) (eqb (getD l 1 0) 32) (ne-eqb _ _ h) (words (drop 2 l))
@@ -157,7 +157,7 @@ module _ (l : List ℕ) (short : length l ≤ 255) (enough : 2 ≤ length l) whe
         ∙ ap (ofWords (length l)) (cond-not ([] ∷ [] ∷ words (drop 2 l)) ((getD l 0 0 ∷ []) ∷ words (drop 2 l)) h)
 
     -- a letter that is no space has its form
-    pub command-letter : (x : ℕ) (f : ℕ → List (List ℕ) → Command) →
+    command-letter : (x : ℕ) (f : ℕ → List (List ℕ) → Command) →
         ((long : ℕ) (ws : List (List ℕ)) → ofWords long ((x ∷ []) ∷ ws) ≡ f long ws) → eqb x 32 ≡ false →
         getD l 0 0 ≡ x → commandOf l ≡ f (length l) (words (drop 2 l))
     command-letter x f form h e =
@@ -165,17 +165,58 @@ module _ (l : List ℕ) (short : length l ≤ 255) (enough : 2 ≤ length l) whe
         ∙ ap (λ (y : ℕ). ofWords (length l) ((y ∷ []) ∷ words (drop 2 l))) e
         ∙ form (length l) (words (drop 2 l))
 
-    pub command-unlettered :
-        (getD l 0 0 ≡ 76 → ⊥) → (getD l 0 0 ≡ 84 → ⊥) → (getD l 0 0 ≡ 82 → ⊥) → (getD l 0 0 ≡ 87 → ⊥) →
-        (getD l 0 0 ≡ 78 → ⊥) → (getD l 0 0 ≡ 80 → ⊥) → commandOf l ≡ Unreadable
-    unfolding words joinFirst isByte
-    command-unlettered k t r w n p = ⊎-elim
+    -- what holds of Unreadable and of the first byte's form holds of the line's command
+    command-form : (P : Command → Type 0) → P Unreadable → P (ofWords (length l) ((getD l 0 0 ∷ []) ∷ words (drop 2 l))) → P (commandOf l)
+    unfolding words joinFirst
+    command-form P none form = ⊎-elim
         (λ s.
-        command-at
+        subst P
+        (sym (command-at
         ∙ ap (ofWords (length l)) (cond-so ([] ∷ words (getD l 1 0 ∷ drop 2 l)) (joinFirst (getD l 0 0) (words (getD l 1 0 ∷ drop 2 l))) s)
-        ∙ empty-first (length l) (words (getD l 1 0 ∷ drop 2 l)))
-        (λ s.
-        letter-at s
-        ∙ no-letter (getD l 0 0 ∷ []) (ne-eqb _ _ t) (ne-eqb _ _ r) (ne-eqb _ _ n) (ne-eqb _ _ k) (ne-eqb _ _ w) (ne-eqb _ _ p)
-        (length l) (words (drop 2 l)))
+        ∙ empty-first (length l) (words (getD l 1 0 ∷ drop 2 l))))
+        none)
+        (λ s. subst P (sym (letter-at s)) form)
         (dichotomy (eqb (getD l 0 0) 32))
+
+-- what holds of 0, where the line is unreadable, and of the first byte, where it is the line's letter, holds of the letter
+letter-cases : (l : List ℕ) (P : ℕ → Type 0) → (commandOf l ≡ Unreadable → P 0) →
+    (length l ≤ 255 → 2 ≤ length l → getD l 1 0 ≡ 32 → P (getD l 0 0)) → P (letterOf l)
+unfolding letterOf
+letter-cases l P none some =
+    cond-elim P (ltb 255 (length l)) (λ long. none (command-long l (ltb-true _ _ long)))
+    (λ short. cond-elim P (ltb (length l) 2) (λ few. none (command-short l (ltb-true _ _ few)))
+    (λ enough. cond-elim P (eqb (getD l 1 0) 32) (λ spaced. some (ltb-false _ _ short) (ltb-false _ _ enough) (eqb-true _ _ spaced))
+    (λ unspaced. none (command-unspaced l (ltb-false _ _ short) (ltb-false _ _ enough) (eqb-false _ _ unspaced)))))
+
+-- none of the six letters
+abbrev pub Unlettered : ℕ → Type 0
+Unlettered x = (x ≡ 76 → ⊥) × (x ≡ 84 → ⊥) × (x ≡ 82 → ⊥) × (x ≡ 87 → ⊥) × (x ≡ 78 → ⊥) × (x ≡ 80 → ⊥)
+
+module _ (l : List ℕ) where
+  -- a line whose letter is no 0 has two bytes
+  pub letter-long : (x : ℕ) → eqb x 0 ≡ false → letterOf l ≡ x → 2 ≤ length l
+  letter-long x h = letter-cases l (λ (y : ℕ). y ≡ x → 2 ≤ length l) (λ _ e. absurd (eqb-false _ _ h (sym e))) (λ _ enough _ _. enough)
+
+  -- a letter that is neither 0 nor a space has its form
+  pub by-letter : (x : ℕ) (f : ℕ → List (List ℕ) → Command) →
+      ((long : ℕ) (ws : List (List ℕ)) → ofWords long ((x ∷ []) ∷ ws) ≡ f long ws) → eqb x 0 ≡ false → eqb x 32 ≡ false →
+      letterOf l ≡ x → commandOf l ≡ f (length l) (words (drop 2 l))
+  by-letter x f form h k =
+      letter-cases l (λ (y : ℕ). y ≡ x → commandOf l ≡ f (length l) (words (drop 2 l)))
+      (λ _ e. absurd (eqb-false _ _ h (sym e)))
+      (λ short enough spaced. command-letter l short enough spaced x f form k)
+
+  -- what holds of Unreadable and of the forms of each letter x with R x holds of the command of a line whose letter is one
+  pub letter-form : (P : Command → Type 0) (R : ℕ → Type 0) → P Unreadable →
+      ((x long : ℕ) (ws : List (List ℕ)) → R x → P (ofWords long ((x ∷ []) ∷ ws))) → R (letterOf l) → P (commandOf l)
+  letter-form P R none form =
+      letter-cases l (λ (y : ℕ). R y → P (commandOf l)) (λ e _. subst P (sym e) none)
+      (λ short enough spaced r. command-form l short enough spaced P none (form (getD l 0 0) (length l) (words (drop 2 l)) r))
+
+  -- any other letter has no form
+  pub unlettered : Unlettered (letterOf l) → commandOf l ≡ Unreadable
+  unfolding isByte
+  unlettered =
+      letter-form (λ (k : Command). k ≡ Unreadable) Unlettered refl
+      (λ x long ws r.
+      no-letter (x ∷ []) (ne-eqb _ _ (r .1)) (ne-eqb _ _ (r .2)) (ne-eqb _ _ (r .4)) (ne-eqb _ _ (r .0)) (ne-eqb _ _ (r .3)) (ne-eqb _ _ (r .5)) long ws)

@@ -2,4 +2,5 @@ pub mod Words
 pub mod Digits
 pub mod Last
 pub mod Letters
+pub mod Starts
 pub mod Places

@@ -106,3 +106,13 @@ ofWords long (w ∷ a ∷ b ∷ c ∷ d ∷ e ∷ ws) = Unreadable
 -- "Lines over 255 bytes without the line feed, empty lines and all else not of these forms are unreadable."
 unfoldable pub commandOf : List ℕ → Command
 commandOf line = cond (ltb 255 (length line)) Unreadable (ofWords (length line) (words line))
+
+-- "`P N C b kinds` must come first (any other first line is unreadable)"
+unfoldable pub startOf : Command → Command
+startOf (Make n c b k) = Make n c b k
+startOf (Line s v) = Unreadable
+startOf (Advance n) = Unreadable
+startOf (Read off) = Unreadable
+startOf (Write off n) = Unreadable
+startOf (Notify c) = Unreadable
+startOf Unreadable = Unreadable

@@ -1,10 +1,10 @@
--- What the leaves of the parser find: a word at a place of a line, the value that it says, and what the words from there on ask for.
+-- What the leaves of the parser find: a word at a place of a line, the value that it says, what the words from there on ask for, and the line's letter.
 -- Assumes nothing.
 use mathlib.Core.Bool.{Bool, true, false, cond}
 use mathlib.Core.List.{List, [], _∷_}
 use Prim.Native.Nat.{ℕ, suc, _+_, _-_, _*_}
-use lib.Dec.{leb, eqb}
-use lib.ListN.{length, drop}
+use lib.Dec.{leb, ltb, eqb}
+use lib.ListN.{length, getD, drop}
 use Rattle.commands.specs.declared.Command.{Command}
 use Rattle.commands.specs.declared.Command.the-variants.{Make, Line, Advance, Read, Write, Notify, Unreadable}
 use Rattle.commands.specs.declared.scan.Value.{Value}
@@ -84,3 +84,7 @@ kindsOf long n c b (w ∷ ws) = cond (isKinds w) (ended (Make n c b (long - leng
 unfoldable pub makeOf : ℕ → List (List ℕ) → Command
 makeOf long =
     valued isNumber decimal (λ n. valued isNumber decimal (λ c. valued isNumber decimal (λ b. kindsOf long n c b)))
+
+-- the letter: the first byte of a line of 2 to 255 bytes whose second is a space, and 0 for any other line
+unfoldable pub letterOf : List ℕ → ℕ
+letterOf l = cond (ltb 255 (length l)) 0 (cond (ltb (length l) 2) 0 (cond (eqb (getD l 1 0) 32) (getD l 0 0) 0))

@@ -9,7 +9,8 @@ use crate::forms::notify_of;
 use crate::forms::read_of;
 use crate::forms::write_of;
 ghost use mathlib.Core.Path.{_≡_};
-ghost use Rattle.commands.specs.Grammar.{commandOf};
+ghost use Rattle.commands.specs.Grammar.{commandOf, startOf};
+ghost use Rattle.commands.specs.Leaves.{letterOf};
 
 // A command, with the numbers that its line gives. Of the first line the last number is where the letters of the kinds begin.
 pub enum Command {
@@ -22,37 +23,43 @@ pub enum Command {
     Unreadable,
 }
 
+// The letter of a line of 2 to 255 bytes whose second is a space; 0 for any other line.
+fn letter_of(line: &[u8]) -> u8
+    ensures { λ r. ⌜ r ≡ letterOf (now (line .entry)) ⌝ }
+{
+    if 255 < line.len() {
+        return 0;
+    }
+    if line.len() < 2 {
+        return 0;
+    }
+    let space = line[1];
+    if space != b' ' {
+        return 0;
+    }
+    line[0]
+}
+
 // What a line asks for.
 pub fn parse(line: &[u8]) -> Command
     ensures { λ r. ⌜ r ≡ commandOf (now (line .entry)) ⌝ }
 {
-    if 255 < line.len() {
-        return Command::Unreadable;
+    match letter_of(line) {
+        b'L' => line_of(line),
+        b'T' => advance_of(line),
+        b'R' => read_of(line),
+        b'W' => write_of(line),
+        b'N' => notify_of(line),
+        b'P' => make_of(line),
+        _ => Command::Unreadable,
     }
-    if line.len() < 2 {
-        return Command::Unreadable;
-    }
-    let letter = line[0];
-    let space = line[1];
-    if space != b' ' {
-        return Command::Unreadable;
-    }
-    if letter == b'L' {
-        return line_of(line);
-    }
-    if letter == b'T' {
-        return advance_of(line);
-    }
-    if letter == b'R' {
-        return read_of(line);
-    }
-    if letter == b'W' {
-        return write_of(line);
-    }
-    if letter == b'N' {
-        return notify_of(line);
-    }
-    if letter == b'P' {
+}
+
+// What a script's first line asks for: only `P N C b kinds` is readable there.
+pub fn first(line: &[u8]) -> Command
+    ensures { λ r. ⌜ r ≡ startOf (commandOf (now (line .entry))) ⌝ }
+{
+    if letter_of(line) == b'P' {
         return make_of(line);
     }
     Command::Unreadable

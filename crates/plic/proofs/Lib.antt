@@ -5,5 +5,6 @@ pub mod Sounds
 pub mod Answers
 pub mod Obeyed
 pub mod Going
+pub mod Parts
 pub mod Once
 pub mod Accepted

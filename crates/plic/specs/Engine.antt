@@ -4,7 +4,7 @@ use mathlib.Core.Path.{_≡_}
 use mathlib.Core.Bool.{true, cond}
 use mathlib.Core.List.{List, []}
 use Prim.Native.Nat.{ℕ, _+_, _*_, _≤_}
-use lib.Dec.{eqb}
+use lib.Dec.{ltb, eqb}
 use lib.ListN.{length, getD, take, drop}
 use Rattle.model.specs.declared.State.{State}
 use Rattle.model.specs.Refusals.{firstOf}
@@ -13,9 +13,10 @@ use Rattle.replaying.specs.declared.Said.{Said}
 use Rattle.replaying.specs.declared.Said.the-variants.{Nothing, Value, Refused}
 use Rattle.replaying.specs.Replay.{on, commanded, Replay, fedAll}
 use Rattle.replaying.specs.Text.{saidBytes, Written}
-use Rattle.replaying.specs.Pieces.{lineLength, lineFeeds}
+use Rattle.replaying.specs.Pieces.{lineLength, lineFeeds, begunAt, kept}
 use Rattle.plic.specs.declared.obey.Did.{Did}
 use Rattle.plic.specs.declared.lines.Went.{Went}
+use Rattle.plic.specs.declared.feeding.Part.{Part}
 use Rattle.plic.specs.Leaves.{notifiedIn}
 use Rattle.plic.specs.Checks.{advanceGrounds, contextGrounds}
 
@@ -38,7 +39,11 @@ notifySaid n m stage prio enable threshold c =
 
 -- a replay on a board, where no line has begun and nothing is printed yet
 abbrev pub boarded : State → Replay
-boarded s = record { stand = on s; begun = []; printed = [] }
+boarded s = begunAt (on s) []
+
+-- a line over 255 bytes is unreadable as an empty one is, which may stand for it
+unfoldable pub standIn : List ℕ → List ℕ
+standIn l = cond (ltb 255 (length l)) [] l
 
 -- all the lines that end in an input have been fed, and what they print stands in the output from a place on
 pub record Gone (s : State) (input out out′ : List ℕ) (from : ℕ) (w : Went) : Type 0 where
@@ -48,3 +53,8 @@ pub record Gone (s : State) (input out out′ : List ℕ) (from : ℕ) (w : Went
   pub fresh : fedAll (boarded s) (take (w .at) input) .begun ≡ []
   pub prints : Written out out′ from (w .written) (fedAll (boarded s) (take (w .at) input) .printed)
   pub room : w .written ≤ from + 20 * lineFeeds (take (w .at) input)
+
+-- a piece has been fed: the replay after it is held, and what it prints stands in the output from a place on
+pub record Feeds (r : Replay) (input out out′ : List ℕ) (from : ℕ) (part : Part) : Type 0 where
+  pub holds : part .replay ≡ kept (fedAll r input .stand) (fedAll r input .begun)
+  pub prints : Written out out′ from (part .written) (fedAll r input .printed)

@@ -33,14 +33,16 @@ pub(crate) fn winner(
 {
     let mut won: usize = 0;
     let mut high: u8 = 0;
-    let mut i: usize = 1;
-    while i <= n {
-        let rank = rank_of(stage, priority, enable, c, i);
-        if high < rank {
-            won = i;
-            high = rank;
+    let mut i = n;
+    while 0 < i {
+        if stage[i] == 1 {
+            let rank = rank_of(stage, priority, enable, c, i);
+            if (0 < rank) & (high <= rank) {
+                won = i;
+                high = rank;
+            }
         }
-        i += 1;
+        i -= 1;
     }
     won
 }
@@ -57,12 +59,14 @@ pub(crate) fn is_notified<'a>(
     requires { ⌜ (n < 128) × (c < 8) ⌝ }
     ensures { λ r. ⌜ r ≡ notifiedIn n (now (stage .entry)) (now (priority .entry)) (now (enable .entry)) threshold c ⌝ }
 {
-    let mut i: usize = 1;
-    while i <= n {
-        if threshold < rank_of(stage, priority, enable, c, i) {
-            return true;
+    let mut i = n;
+    while 0 < i {
+        if stage[i] == 1 {
+            if threshold < rank_of(stage, priority, enable, c, i) {
+                return true;
+            }
         }
-        i += 1;
+        i -= 1;
     }
     false
 }

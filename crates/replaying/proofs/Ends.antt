@@ -23,8 +23,9 @@ line-step l i h = ap lineLength (drop-cons l i 0 h)
 pub line-feed : (l : List ℕ) (i : ℕ) → i < length l → getD l i 0 ≡ 10 → lineLength (drop i l) ≡ 0
 line-feed l i h e = line-step l i h ∙ cond-so _ _ (eq-eqb _ _ e)
 
-pub line-on : (l : List ℕ) (i : ℕ) → i < length l → (getD l i 0 ≡ 10 → ⊥) → lineLength (drop i l) ≡ suc (lineLength (drop (suc i) l))
-line-on l i h ne = line-step l i h ∙ cond-not _ _ (ne-eqb _ _ ne)
+pub line-next : (l : List ℕ) (i k : ℕ) → k ≡ suc i → i < length l → (getD l i 0 ≡ 10 → ⊥) → k + lineLength (drop k l) ≡ i + lineLength (drop i l)
+line-next l i k e h ne =
+    omega (arith, e, line-step l i h ∙ cond-not _ _ (ne-eqb _ _ ne), ap (λ (j : ℕ). lineLength (drop j l)) e)
 
 pub line-over : (l : List ℕ) (i : ℕ) → length l ≤ i → lineLength (drop i l) ≡ 0
 unfolding lineLength

@@ -5,12 +5,13 @@ use mathlib.Core.Bool.{cond}
 use mathlib.Core.List.{List, [], _∷_, _++_}
 use Prim.Native.Nat.{ℕ, zero, suc, _+_, _*_, _/_, _%_, _^_, _≤_, _<_}
 use native.Mathlib.Nat.{div-add-mod, pow-suc}
+use native.Mathlib.Numerals.{add-one}
 use native.Mathlib.Omega.{arith}
 use lib.Dec.{ltb}
-use lib.ListN.{length, set, length-append}
-use lib.Seq.{sets, length-sets}
+use lib.ListN.{length, getD, take, set, length-append}
+use lib.Seq.{sets, length-sets, take-suc, length-take-le}
 use borrow.Author.Tests.{lt-ltb, le-ltb, le-leb, lt-leb}
-use Rattle.laws.proofs.Lists.{sets-append}
+use Rattle.laws.proofs.Lists.{sets-append, sets-after}
 use Rattle.laws.proofs.Truth.{cond-so, cond-not, cond-elim}
 use Rattle.replaying.specs.Replay.{digitsIn, digits}
 use Rattle.replaying.specs.Text.{Written, Put, put}
@@ -30,7 +31,7 @@ spare zero n h = cond-so _ _ (lt-ltb n 10 h) ∙ sym (cond-so _ _ (lt-ltb n 10 h
 spare (suc k) n h = ap (λ (l : List ℕ). cond (ltb n 10) ((48 + n) ∷ []) (l ++ ((48 + n % 10) ∷ []))) (spare k (n / 10) (tenth (suc k) n h))
 
 -- the digits before the last, and the last
-pub digits-more : (n : ℕ) → 10 ≤ n → n < 18446744073709551616 → digits n ≡ digits (n / 10) ++ ((48 + n % 10) ∷ [])
+digits-more : (n : ℕ) → 10 ≤ n → n < 18446744073709551616 → digits n ≡ digits (n / 10) ++ ((48 + n % 10) ∷ [])
 unfolding digits
 digits-more n h k =
     first
@@ -38,6 +39,13 @@ digits-more n h k =
   where
     first : digitsIn 20 n ≡ digitsIn 19 (n / 10) ++ ((48 + n % 10) ∷ [])
     first = unfold digitsIn in cond-not _ _ (le-ltb n 10 h)
+
+-- how many digits there are: one, or one more than without the last
+pub length-one : (n : ℕ) → n < 10 → length (digits n) ≡ 1
+length-one n h = ap length (digits-one n h)
+
+pub length-more : (n : ℕ) → 10 ≤ n → n < 18446744073709551616 → length (digits n) ≡ length (digits (n / 10)) + 1
+length-more n h k = ap length (digits-more n h k) ∙ length-append (digits (n / 10)) ((48 + n % 10) ∷ [])
 
 few : (j k n : ℕ) → n < 10 ^ suc k → length (digitsIn j n) ≤ suc k
 unfolding digitsIn
@@ -47,7 +55,7 @@ few (suc j) (suc k) n h = cond-elim (λ (l : List ℕ). length l ≤ suc (suc k)
     (λ _. omega arith)
     (λ _. omega (arith, length-append (digitsIn j (n / 10)) ((48 + n % 10) ∷ []), few j k (n / 10) (tenth (suc k) n h)))
 
--- how many digits there are
+-- how many there are at most
 pub digits-narrow : (n : ℕ) → n ≤ 4294967295 → length (digits n) ≤ 10
 unfolding digits
 digits-narrow n h = few 20 9 n (omega (arith, h))
@@ -55,6 +63,16 @@ digits-narrow n h = few 20 9 n (omega (arith, h))
 pub digits-wide : (n : ℕ) → n < 18446744073709551616 → length (digits n) ≤ 20
 unfolding digits
 digits-wide n h = few 20 19 n (omega (arith, h))
+
+-- the last digit stored alone, and then those before it
+pub last-first : (l : List ℕ) (at n last : ℕ) → 10 ≤ n → n < 18446744073709551616 → at + length (digits n) ≡ last + 1 →
+    sets (set l last (48 + n % 10)) at (digits (n / 10)) ≡ sets l at (digits n)
+last-first l at n last h k e =
+    let place : at + length (digits (n / 10)) ≡ last = omega (arith, length-more n h k) in
+    sets-after l at (digits (n / 10)) last (48 + n % 10) (omega arith)
+    ∙ ap (λ (j : ℕ). set (sets l at (digits (n / 10))) j (48 + n % 10)) (sym place)
+    ∙ sym (sets-append l at (digits (n / 10)) ((48 + n % 10) ∷ []))
+    ∙ ap (sets l at) (sym (digits-more n h k))
 
 -- what was written has the length that it had
 pub written-length : {l out : List ℕ} {at end : ℕ} {text : List ℕ} → Written l out at end text → length out ≡ length l
@@ -92,3 +110,13 @@ written-put room text l out at end h e = record {
   bytes = ap (λ (p : Put). p .bytes) e ∙ cond-so _ _ (le-leb _ _ h);
   place = ap (λ (p : Put). p .end) e ∙ cond-so _ _ (le-leb _ _ h);
 }
+
+-- one element more of a run of stores
+pub sets-more : (l out : List ℕ) (at : ℕ) (text : List ℕ) (i : ℕ) → i < length text → out ≡ sets l at (take i text) →
+    set out (at + i) (getD text i 0) ≡ sets l at (take (i + 1) text)
+sets-more l out at text i h e =
+    ap (λ (o : List ℕ). set o (at + i) (getD text i 0)) e
+    ∙ ap (λ (k : ℕ). set (sets l at (take i text)) (at + k) (getD text i 0)) (sym (length-take-le i text (omega (arith, h))))
+    ∙ sym (sets-append l at (take i text) (getD text i 0 ∷ []))
+    ∙ ap (sets l at) (sym (take-suc text i 0 h))
+    ∙ ap (λ (k : ℕ). sets l at (take k text)) (sym (add-one i))

@@ -1,8 +1,7 @@
 -- A script that comes in pieces: what is held of a replay from one piece to the next, and what a piece does to it.
 -- Assumes nothing.
-use mathlib.Core.Path.{_≡_}
 use mathlib.Core.Bool.{Bool, true, cond}
-use mathlib.Core.List.{List, [], _∷_, _++_}
+use mathlib.Core.List.{List, [], _∷_}
 use Prim.Native.Nat.{ℕ, suc, _+_, _/_}
 use lib.Dec.{leb, eqb}
 use lib.ListN.{length, take, replicate}
@@ -30,19 +29,23 @@ unfoldable pub lineFeeds : List ℕ → ℕ
 lineFeeds [] = 0
 lineFeeds (b ∷ bs) = cond (eqb b 10) 1 0 + lineFeeds bs
 
--- the replay that is held, with nothing printed yet
+-- a replay with a line begun and nothing printed yet
+abbrev pub begunAt : Stand → List ℕ → Replay
+begunAt p l = record { stand = p; begun = l; printed = [] }
+
+-- the replay that is held
 unfoldable pub standOf : Place → State → Stand
 standOf Before s = before
 standOf On s = on s
 standOf Ended s = ended
 
 unfoldable pub shown : Replaying → Replay
-shown r = record { stand = standOf (r .place) (r .state); begun = take (r .held) (r .begun); printed = [] }
+shown r = begunAt (standOf (r .place) (r .state)) (take (r .held) (r .begun))
 
 -- how a replay is held: off a board the state is zero throughout; of the line that has begun the first 256 bytes are kept, since a
 -- line over 255 bytes is unreadable whatever it holds; after the end no line matters
 unfoldable pub padded : List ℕ → List ℕ
-padded l = take 256 (l ++ replicate 256 0)
+padded l = sets (replicate 256 0) 0 (take 256 l)
 
 unfoldable pub kept : Stand → List ℕ → Replaying
 kept before l = record { place = Before; state = zeroState; begun = padded l; held = length (take 256 l) }

@@ -27,18 +27,34 @@ fn put_text(text: &[u8], output: &mut [u8], at: usize) -> usize
     at + i
 }
 
-// A number in decimal, the digits before the last one first. Returns the place after it.
+// How many digits a number has.
+fn width(v: u64) -> usize
+    ensures { λ r. ⌜ r ≡ length (digits v) ⌝ }
+{
+    let mut n: usize = 1;
+    let mut rest = v;
+    while 10 <= rest {
+        rest /= 10;
+        n += 1;
+    }
+    n
+}
+
+// A number in decimal, its last digit first. Returns the place after it.
 fn put_digits(v: u64, output: &mut [u8], at: usize) -> usize
     requires { ⌜ at + length (digits v) ≤ length (now output) ⌝ }
     ensures { λ r. ⌜ Written (now (output .entry)) (now (output .exit)) at r (digits v) ⌝ }
 {
-    if v < 10 {
-        output[at] = 48 + v as u8;
-        return at + 1;
+    let end = at + width(v);
+    let mut rest = v;
+    let mut last = end;
+    while 10 <= rest {
+        last -= 1;
+        output[last] = 48 + (rest % 10) as u8;
+        rest /= 10;
     }
-    let last = put_digits(v / 10, output, at);
-    output[last] = 48 + (v % 10) as u8;
-    last + 1
+    output[at] = 48 + rest as u8;
+    end
 }
 
 // `refused` and a number.

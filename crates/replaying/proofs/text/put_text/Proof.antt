@@ -5,7 +5,7 @@ use native.Mathlib.Numerals.{add-one}
 use native.Mathlib.Omega.{arith}
 use lib.ListN.{length, take, set, getD}
 use lib.Seq.{sets, length-sets, take-suc, take-length, length-take-le}
-use Rattle.laws.proofs.Lists.{sets-append}
+use Rattle.replaying.proofs.Print.{sets-more}
 use Rattle.replaying.proofs.text.put_text.Statement.{statement}
 use Rattle.replaying.proofs.text.put_text.Tie as tie
 use Rattle.replaying.proofs.text.put_text.Reads as reads
@@ -13,15 +13,6 @@ use Rattle.replaying.proofs.text.put_text.Lts as lts
 
 kept-length : (out l : List ℕ) (at : ℕ) (xs : List ℕ) → out ≡ sets l at xs → length out ≡ length l
 kept-length out l at xs e = ap length e ∙ length-sets l at xs
-
-one-more : (l out : List ℕ) (at : ℕ) (text : List ℕ) (i : ℕ) → i < length text → out ≡ sets l at (take i text) →
-    set out (at + i) (getD text i 0) ≡ sets l at (take (i + 1) text)
-one-more l out at text i h e =
-    ap (λ (o : List ℕ). set o (at + i) (getD text i 0)) e
-    ∙ ap (λ (k : ℕ). set (sets l at (take i text)) (at + k) (getD text i 0)) (sym (length-take-le i text (omega (arith, h))))
-    ∙ sym (sets-append l at (take i text) (getD text i 0 ∷ []))
-    ∙ ap (sets l at) (sym (take-suc text i 0 h))
-    ∙ ap (λ (k : ℕ). sets l at (take k text)) (sym (add-one i))
 
 abbrev Inv-loop : tie.InvT-loop
 Inv-loop text output₀ at i₀ output i = (i ≤ length text) × (output ≡ sets output₀ at (take i text))
@@ -58,7 +49,7 @@ loop-again : tie.Need-loop-again Inv-loop μ-loop
 loop-again c =
     let l = c .before .before .loop in
     let text = c .before .before .before .args .text .now in
-    (omega arith, one-more (c .before .before .before .args .output .now) (l .output) (c .before .before .before .args .at) text (l .i) (c .before .loop-test .taken) (l .inv .1))
+    (omega arith, sets-more (c .before .before .before .args .output .now) (l .output) (c .before .before .before .args .at) text (l .i) (c .before .loop-test .taken) (l .inv .1))
 
 -- src/text.rt:28:5
 add-result : tie.Need-add-result Inv-loop μ-loop

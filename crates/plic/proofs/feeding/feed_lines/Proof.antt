@@ -1,0 +1,52 @@
+use borrow.Author.Needs.{needs}
+use Rattle.plic.proofs.feeding.feed_lines.Statement.{statement}
+use Rattle.plic.proofs.feeding.feed_lines.Tie as tie
+use Rattle.plic.proofs.feeding.feed_lines.Reads as reads
+use Rattle.plic.proofs.feeding.feed_lines.Lts as lts
+use Rattle.plic.proofs.feeding.standing.Reads as standing-reads
+use Rattle.plic.proofs.lines.lines_on.Reads as lines-on-reads
+
+-- src/feeding.rt:57:9
+lines-on-requires : tie.Need-lines-on-requires
+lines-on-requires c κs = search needs
+
+-- src/feeding.rt:60:31
+slice-aggregate-standing : tie.Need-slice-aggregate-standing
+slice-aggregate-standing c = search needs
+
+-- src/feeding.rt:60:44
+sub-standing : tie.Need-sub-standing
+sub-standing c = search needs
+
+-- src/feeding.rt:60:44
+part-standing-start : tie.Need-part-standing-start
+part-standing-start c = search needs
+
+-- src/feeding.rt:60:44
+part-standing-end : tie.Need-part-standing-end
+part-standing-end c = search needs
+
+-- src/feeding.rt:60:5
+standing-requires : tie.Need-standing-requires
+standing-requires c κs = search needs
+
+-- src/feeding.rt:53:1
+same-length : tie.Need-same-length
+same-length c = search needs
+
+-- src/feeding.rt:53:1
+returns : tie.Need-returns
+returns c = ?
+
+pub feed-lines-spec : {M : Type 1} → statement M
+feed-lines-spec =
+    tie.close
+    (tie.spec
+    lines-on-requires
+    slice-aggregate-standing
+    sub-standing
+    part-standing-start
+    part-standing-end
+    standing-requires
+    same-length
+    returns)
