@@ -52,6 +52,7 @@ module _ {s₀ s : State} {input out₀ out : List ℕ} {from at written end : �
     fresh = g .fresh;
     prints = g .prints;
     room = g .room;
+    sound = subst Sound e (g .sound);
   }
 
   -- the line that ends at `end`

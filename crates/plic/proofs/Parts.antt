@@ -1,26 +1,47 @@
 -- What feeding a piece rests on: when a replay is fit, what the first line comes to, and how the parts of a piece go together.
 -- Assumes nothing.
 use mathlib.Core.Path.{_≡_, _∙_, refl, sym, ap, subst}
-use mathlib.Core.Bool.{Bool, true, _&&_, So, and-true}
+use mathlib.Core.Bool.{Bool, true, cond, _&&_, So, and-true}
 use mathlib.Core.List.{List, [], _∷_, _++_}
-use Prim.Native.Nat.{ℕ, _+_, _-_, _≤_}
-use native.Mathlib.Nat.{zero-add, min-le-left}
+use mathlib.Core.Logic.{⊎-elim}
+use Prim.Native.Nat.{ℕ, suc, _+_, _-_, _*_, _≤_, _<_}
+use native.Mathlib.Nat.{zero-add, add-zero, min-le-left, min-le-right}
+use native.Mathlib.Numerals.{add-one}
 use native.Mathlib.Omega.{arith}
-use lib.Dec.{leb, eqb}
-use lib.ListN.{length, take, drop, replicate, length-append, length-take, length-replicate}
-use lib.Seq.{sets, sets-eq, length-sets, take-all, take-append-add, take-append-seam}
-use borrow.Author.Tests.{le-leb, eq-eqb}
+use lib.Dec.{leb, ltb, eqb}
+use lib.ListN.{length, take, drop, set, replicate, length-append, length-take, length-drop, length-replicate, take-append-drop}
+use lib.Seq.{sets, length-sets, take-all, take-length, take-suc-set, take-append-add, take-append-seam, take-at, drop-append-le, length-take-le}
+use borrow.Author.Tests.{le-leb, leb-true, leb-false, eq-eqb, eqb-true, ltb-true, ltb-false, lt-ltb, le-ltb}
 use Rattle.laws.specs.Fold.{allOf}
+use Rattle.laws.proofs.Truth.{and-left, and-right, cond-so, cond-not, cond-elim, dichotomy}
 use Rattle.laws.proofs.Lists.{sets-append}
+use Rattle.model.specs.declared.State.{State}
 use Rattle.model.specs.declared.Answered.{Answered}
-use Rattle.model.specs.Refusals.{answered}
+use Rattle.model.specs.declared.Answer.{Answer}
+use Rattle.model.specs.declared.Answer.the-variants.{Value, Refused}
+use Rattle.model.specs.declared.Refusal.{Refusal}
+use Rattle.model.specs.Refusals.{numberOf, answerNumber, answered}
+use Rattle.model.specs.Calls.{make}
+use Rattle.model.specs.Sound.{Sound}
+use Rattle.model.proofs.Make.{made-sound}
 use Rattle.commands.specs.declared.Command.{Command}
 use Rattle.commands.specs.declared.Command.the-variants.{Make, Line, Advance, Read, Write, Notify, Unreadable}
-use Rattle.commands.specs.Grammar.{startOf, commandOf}
+use Rattle.commands.specs.Grammar.{words, ofWords, startOf, commandOf}
+use Rattle.replaying.specs.declared.Place.the-variants.{On}
 use Rattle.replaying.specs.declared.Replaying.{Replaying}
-use Rattle.replaying.specs.Replay.{started, badStart, firstLine}
-use Rattle.replaying.specs.Pieces.{lineLength, padded, boardSound, fit}
+use Rattle.replaying.specs.Replay.{Stand, before, on, ended, Told, refusedLine, kindBytes, started, badStart, firstLine, answer, Replay, lineEnds, fedAll}
+use Rattle.replaying.specs.Text.{Written}
+use Rattle.replaying.specs.Pieces.{lineLength, lineFeeds, begunAt, padded, kept, boardSound, fit}
+use Rattle.replaying.proofs.Print.{written-then}
+use Rattle.replaying.proofs.Chunks.{fed-apart}
+use Rattle.replaying.proofs.Ends.{fed-held, fed-line, line-most, feeds-append}
+use Rattle.replaying.proofs.InPieces.{padded-held}
+use Rattle.replaying.proofs.Through.{cut-answer, no-end, one-end, ended-stays, line-append, line-whole, line-drop, feeds-none, too-long, unreadable-answer}
 use Rattle.plic.specs.declared.held.Held.{Held}
+use Rattle.plic.specs.declared.lines.Went.{Went}
+use Rattle.plic.specs.declared.feeding.Part.{Part}
+use Rattle.plic.specs.Engine.{boarded, standIn, Gone, Feeds}
+use Rattle.plic.proofs.Obeyed.{SoundAt, not-zero}
 
 -- a replay of which one line's beginning is held is fit if its board is sound
 pub fit-board : (r : Replaying) → r .held ≤ 256 → lineLength (take (r .held) (r .begun)) ≡ r .held → fit r ≡ boardSound (r .place) (r .state)
@@ -72,13 +93,272 @@ joined-is first more bytes bytes′ held count h e f g k = λ i. record { bytes 
     counted : count ≡ length (take 256 (first ++ more))
     counted = k ∙ ap (λ (n : ℕ). n + length (take (256 - held) more)) long ∙ sym (length-append first (take (256 - held) more)) ∙ ap length cut
 
--- what is held in it
-pub padded-held : (l : List ℕ) → take (length (take 256 l)) (padded l) ≡ take 256 l
-unfolding padded
-padded-held l =
-    ap (take (length (take 256 l))) (sets-eq (take 256 l) (replicate 256 0) 0 (omega (arith, length-take 256 l, length-replicate {A = ℕ} 256 0, zero-add (length (take 256 l)), min-le-left 256 (length l))))
-    ∙ take-append-seam (take 256 l) (drop (0 + length (take 256 l)) (replicate 256 0))
-
 pub padded-length : (l : List ℕ) → length (padded l) ≡ 256
 unfolding padded
 padded-length l = length-sets (replicate 256 0) 0 (take 256 l) ∙ length-replicate {A = ℕ} 256 0
+
+-- a line with its line feed, in that room
+ended-at : (l bytes : List ℕ) (held : ℕ) → bytes ≡ padded l → held < 256 → take held (padded l) ≡ standIn l →
+    take (held + 1) (set bytes held 10) ≡ standIn l ++ (10 ∷ [])
+ended-at l bytes held e h f =
+    (λ i. take (add-one held i) (set (e i) held 10))
+    ∙ take-suc-set (padded l) held 10 (omega (arith, padded-length l, h)) ∙ ap (λ (k : List ℕ). k ++ (10 ∷ [])) f
+
+pub ended-full : (l bytes : List ℕ) (held : ℕ) → bytes ≡ padded l → length (take 256 l) ≡ 256 → held ≡ 0 →
+    (take (held + 1) (set bytes held 10) ≡ standIn l ++ (10 ∷ [])) × (held < 256)
+unfolding standIn
+ended-full l bytes held e f g =
+    let long : 255 < length l = omega (arith, f, length-take 256 l, min-le-right 256 (length l)) in
+    let none = ap (λ (k : ℕ). take k (padded l)) g ∙ sym (cond-so [] l (lt-ltb 255 (length l) long)) in
+    (ended-at l bytes held e (omega (arith, g)) none, omega (arith, g))
+
+pub ended-part : (l bytes : List ℕ) (held : ℕ) → bytes ≡ padded l → (length (take 256 l) ≡ 256 → ⊥) → held ≡ length (take 256 l) →
+    (take (held + 1) (set bytes held 10) ≡ standIn l ++ (10 ∷ [])) × (held < 256)
+unfolding standIn
+ended-part l bytes held e f g =
+    let less : length (take 256 l) < 256 = omega (arith, f, length-take 256 l, min-le-left 256 (length l)) in
+    let short : length l ≤ 255 = short-of l less in
+    let whole = ap (λ (k : ℕ). take k (padded l)) g ∙ padded-held l ∙ take-all 256 l (omega (arith, short)) ∙ sym (cond-not [] l (le-ltb 255 (length l) short)) in
+    (ended-at l bytes held e (omega (arith, g, less)) whole, omega (arith, g, less))
+  where
+    short-of : (l : List ℕ) → length (take 256 l) < 256 → length l ≤ 255
+    short-of l h = ⊎-elim
+        (λ (t : So (ltb 255 (length l))). absurd (omega (arith, h, length-take-le 256 l (omega (arith, ltb-true 255 (length l) t)))))
+        (λ t. ltb-false 255 (length l) t)
+        (dichotomy (ltb 255 (length l)))
+
+-- an empty line may stand for one that is too long
+pub stand-in-answer : (s : State) (l : List ℕ) → answer (on s) (standIn l) ≡ answer (on s) l
+unfolding standIn
+stand-in-answer s l = cond-elim (λ (k : List ℕ). answer (on s) k ≡ answer (on s) l) (ltb 255 (length l))
+    (λ t. unreadable-answer (on s) [] l empty (too-long l (ltb-true 255 (length l) t)))
+    (λ _. refl)
+  where
+    empty : commandOf [] ≡ Unreadable
+    empty = unfold commandOf ofWords words in refl
+
+pub stand-in-line : (l : List ℕ) → lineLength l ≡ length l → lineLength (standIn l) ≡ length (standIn l)
+unfolding standIn lineLength
+stand-in-line l e = cond-elim (λ (k : List ℕ). lineLength k ≡ length k) (ltb 255 (length l)) (λ _. refl) (λ _. e)
+
+-- one line, ended, on a board
+pub one-line : (s : State) (m out out′ : List ℕ) (w : Went) → lineLength m ≡ length m → Gone s (m ++ (10 ∷ [])) out out′ 0 w →
+    (answer (on s) m .stand ≡ on (w .state)) × Written out out′ 0 (w .written) (answer (on s) m .prints)
+one-line s m out out′ w e g = (
+  sym (ap (λ (r : Replay). r .stand) fed) ∙ g .stands,
+  subst (Written out out′ 0 (w .written)) (ap (λ (r : Replay). r .printed) fed) (g .prints),
+)
+  where
+    long : length (m ++ (10 ∷ [])) ≡ length m + 1
+    long = length-append m (10 ∷ [])
+
+    first : lineLength (m ++ (10 ∷ [])) ≡ length m
+    first = line-append m (10 ∷ []) e ∙ (unfold lineLength in add-zero (length m))
+
+    all : w .at ≡ length m + 1
+    all = ⊎-elim
+        (λ (t : So (leb (w .at) (length m))).
+        let inside : w .at ≤ length m = leb-true _ _ t in
+        let rest = ap lineLength (drop-append-le (w .at) m (10 ∷ []) inside) ∙ line-append (drop (w .at) m) (10 ∷ []) (line-drop (w .at) m e) in
+        absurd (omega (arith, g .rest, rest, one-left, length-drop (w .at) (m ++ (10 ∷ [])), length-drop (w .at) m, long, inside)))
+        (λ t. omega (arith, g .within, long, leb-false (w .at) (length m) t))
+        (dichotomy (leb (w .at) (length m)))
+      where
+        one-left : lineLength (10 ∷ []) ≡ 0
+        one-left = unfold lineLength in refl
+
+    fed : fedAll (boarded s) (take (w .at) (m ++ (10 ∷ []))) ≡ record { stand = answer (on s) m .stand; begun = []; printed = answer (on s) m .prints }
+    fed =
+        ap (λ (k : ℕ). fedAll (boarded s) (take k (m ++ (10 ∷ [])))) (all ∙ add-one (length m) ∙ ap suc (sym first))
+        ∙ fed-line (boarded s) (m ++ (10 ∷ [])) (omega (arith, first, long))
+        ∙ ap (λ (l : List ℕ). lineEnds (begunAt (on s) l)) (ap (λ (k : ℕ). take k (m ++ (10 ∷ []))) first ∙ take-append-seam m (10 ∷ []))
+        ∙ (unfold lineEnds in refl)
+
+-- the rest of a slice from a place on
+pub rest-of : (n : ℕ) (l : List ℕ) → take (length l - n) (drop n l) ≡ drop n l
+rest-of n l = take-all (length l - n) (drop n l) (omega (arith, length-drop n l))
+
+-- the lines of a piece on a board, and the line that has begun after them
+pub feeds-rest : (s : State) (input out out′ : List ℕ) (from : ℕ) (w : Went) (part : Part) → Gone s input out out′ from w →
+    let rest : List ℕ = take (length input - w .at) (drop (w .at) input) in
+    part ≡ record { replay = record { place = On; state = w .state; begun = padded rest; held = length (take 256 rest) }; written = w .written } →
+    Feeds (boarded s) input out out′ from part
+unfolding kept
+feeds-rest s input out out′ from w part g e = record {
+  holds = ap (λ (p : Part). p .replay) e ∙ ap (kept (on (w .state))) (rest-of (w .at) input) ∙ sym (λ i. kept (whole i .stand) (whole i .begun));
+  prints = subst (λ (k : ℕ). Written out out′ from k (fedAll (boarded s) input .printed)) (sym (ap (λ (p : Part). p .written) e))
+      (subst (Written out out′ from (w .written)) (sym (ap (λ (r : Replay). r .printed) whole)) (g .prints));
+}
+  where
+    so-far : Replay
+    so-far = fedAll (boarded s) (take (w .at) input)
+
+    whole : fedAll (boarded s) input ≡ record { stand = on (w .state); begun = drop (w .at) input; printed = so-far .printed }
+    whole =
+        ap (fedAll (boarded s)) (sym (take-append-drop (w .at) input))
+        ∙ fed-apart (boarded s) (take (w .at) input) (drop (w .at) input)
+        ∙ ap (fedAll so-far) (sym (take-length (drop (w .at) input)))
+        ∙ fed-held so-far (drop (w .at) input) (length (drop (w .at) input)) (omega (arith, g .rest))
+        ∙ (λ i. record { stand = g .stands i; begun = g .fresh i ++ take-length (drop (w .at) input) i; printed = so-far .printed })
+
+-- a piece in which no line ends
+pub feeds-begun : (p : Stand) (b input out : List ℕ) (part : Part) → lineLength input ≡ length input →
+    part ≡ record { replay = kept p (b ++ input); written = 0 } → Feeds (begunAt p b) input out out 0 part
+feeds-begun p b input out part e f =
+    let whole = no-end p b input e in
+    record {
+      holds = ap (λ (k : Part). k .replay) f ∙ sym (λ i. kept (whole i .stand) (whole i .begun));
+      prints = record {
+        bytes = sym (ap (λ (r : Replay). sets out 0 (r .printed)) whole);
+        place = ap (λ (k : Part). k .written) f ∙ sym (zero-add _ ∙ ap (λ (r : Replay). length (r .printed)) whole);
+      };
+    }
+
+-- a line ends, and the rest of the piece follows
+pub feeds-through : (p : Stand) (b input out mid out′ : List ℕ) (written : ℕ) (part : Part) (told : Told) → lineLength input < length input →
+    answer p (b ++ take (lineLength input) input) ≡ told → Written out mid 0 written (told .prints) →
+    Feeds (begunAt (told .stand) []) (drop (suc (lineLength input)) input) mid out′ written part → Feeds (begunAt p b) input out out′ 0 part
+feeds-through p b input out mid out′ written part told h e v f =
+    let whole = one-end p b input h told e in
+    record {
+      holds = f .holds ∙ sym (λ i. kept (whole i .stand) (whole i .begun));
+      prints = subst (Written out out′ 0 (part .written)) (sym (ap (λ (r : Replay). r .printed) whole)) (written-then v (f .prints));
+    }
+
+-- a piece after the end
+pub feeds-ended : (r : Replay) (input out : List ℕ) (written : ℕ) (part : Part) → r .stand ≡ ended → r .printed ≡ [] →
+    part ≡ record { replay = kept ended []; written = written } → Feeds r input out out written part
+unfolding kept
+feeds-ended r input out written part e f g =
+    let stays = ended-stays r input e in
+    let quiet = stays .1 ∙ f in
+    record {
+      holds = ap (λ (k : Part). k .replay) g ∙ sym (ap (λ (p : Stand). kept p (fedAll r input .begun)) (stays .0));
+      prints = record {
+        bytes = sym (ap (sets out written) quiet);
+        place = ap (λ (k : Part). k .written) g ∙ sym (ap (λ (l : List ℕ). written + length l) quiet ∙ add-zero written);
+      };
+    }
+
+-- the line that has begun, with the bytes that end it
+pub begun-line : (b input : List ℕ) (end : ℕ) → lineLength b ≡ length b → end ≡ 0 + lineLength (drop 0 input) →
+    lineLength (b ++ take end input) ≡ length (b ++ take end input)
+begun-line b input end e f =
+    line-append b (take end input) e
+    ∙ ap (λ (k : ℕ). length b + k) (ap (λ (k : ℕ). lineLength (take k input)) is ∙ line-whole input ∙ ap (λ (k : ℕ). length (take k input)) (sym is))
+    ∙ sym (length-append b (take end input))
+  where
+    is : end ≡ lineLength input
+    is = f ∙ zero-add (lineLength input)
+
+pub one-feed : (m : List ℕ) → lineLength m ≡ length m → lineFeeds (m ++ (10 ∷ [])) ≡ 1
+one-feed m e = feeds-append m (10 ∷ []) ∙ (λ i. feeds-none m e i + last i)
+  where
+    last : lineFeeds (10 ∷ []) ≡ 1
+    last = unfold lineFeeds in refl
+
+-- a piece on a board that ends the line that has begun
+pub feeds-board : (s : State) (b input out mid out′ line : List ℕ) (end : ℕ) (w : Went) (part : Part) → lineLength b ≡ length b →
+    end ≡ 0 + lineLength (drop 0 input) → (end ≡ length input → ⊥) → line ≡ standIn (b ++ take end input) ++ (10 ∷ []) → Gone s line out mid 0 w →
+    Feeds (boarded (w .state)) (take (length input - (end + 1)) (drop (end + 1) input)) mid out′ (w .written) part →
+    Feeds (begunAt (on s) b) input out out′ 0 part
+feeds-board s b input out mid out′ line end w part e f ne g gone feeds =
+    feeds-through (on s) b input out mid out′ (w .written) part (answer (on s) (b ++ take (lineLength input) input))
+    (omega (arith, is, ne, line-most input)) refl
+    (subst (λ (k : ℕ). Written out mid 0 (w .written) (answer (on s) (b ++ take k input) .prints)) is
+    (subst (λ (t : Told). Written out mid 0 (w .written) (t .prints)) (stand-in-answer s (b ++ take end input)) (told .1)))
+    (subst (λ (p : Stand). Feeds (begunAt p []) (drop (suc (lineLength input)) input) mid out′ (w .written) part) (sym stands)
+    (subst (λ (l : List ℕ). Feeds (boarded (w .state)) l mid out′ (w .written) part) (rest-of (end + 1) input ∙ ap (λ (k : ℕ). drop k input) (add-one end ∙ ap suc is)) feeds))
+  where
+    is : end ≡ lineLength input
+    is = f ∙ zero-add (lineLength input)
+
+    told : (answer (on s) (standIn (b ++ take end input)) .stand ≡ on (w .state))
+        × Written out mid 0 (w .written) (answer (on s) (standIn (b ++ take end input)) .prints)
+    told = one-line s (standIn (b ++ take end input)) out mid w (stand-in-line _ (begun-line b input end e f))
+        (subst (λ (l : List ℕ). Gone s l out mid 0 w) g gone)
+
+    stands : answer (on s) (b ++ take (lineLength input) input) .stand ≡ on (w .state)
+    stands =
+        ap (λ (k : ℕ). answer (on s) (b ++ take k input) .stand) (sym is)
+        ∙ ap (λ (t : Told). t .stand) (sym (stand-in-answer s (b ++ take end input))) ∙ told .0
+
+made-stand : (n m b : ℕ) (kinds : List ℕ) → SoundAt (started (make n m b kinds) .stand)
+unfolding started
+made-stand n m b kinds = cond-elim SoundAt (eqb (make n m b kinds .number) 0) (λ t. made-sound n m b kinds (eqb-true _ 0 t) .1) (λ _. tt)
+
+first-line-sound : (c : Command) (bytes : List ℕ) → SoundAt (firstLine c bytes .stand)
+unfolding firstLine badStart
+first-line-sound (Make n m b k) bytes = made-stand n m b (kindBytes (drop k bytes))
+first-line-sound (Line i v) bytes = tt
+first-line-sound (Advance n) bytes = tt
+first-line-sound (Read off) bytes = tt
+first-line-sound (Write off v) bytes = tt
+first-line-sound (Notify c) bytes = tt
+first-line-sound Unreadable bytes = tt
+
+first-sound : (bytes : List ℕ) → SoundAt (answer before bytes .stand)
+unfolding answer
+first-sound bytes = first-line-sound (commandOf bytes) bytes
+
+-- the first line: a board is made, or none
+module _ (l line : List ℕ) (made : Answered) (cut : line ≡ take 256 l) (started-is : started (answered made) ≡ firstLine (commandOf line) line) where
+  told-first : answer before l ≡ started (answered made)
+  told-first = sym (ap (answer before) cut ∙ cut-answer before l) ∙ (unfold answer in sym started-is)
+
+  pub told-made : (v : ℕ) → made .answer ≡ Value v → answer before l ≡ record { stand = on (made .state); prints = [] }
+  unfolding started answered answerNumber
+  told-made v e = told-first ∙ ap (λ (a : Answer). started (answered (record { answer = a; state = made .state }))) e
+
+  pub told-unmade : (why : Refusal) → made .answer ≡ Refused why → answer before l ≡ record { stand = ended; prints = refusedLine (numberOf why) }
+  unfolding started answered answerNumber
+  told-unmade why e =
+      told-first ∙ ap (λ (a : Answer). started (answered (record { answer = a; state = made .state }))) e
+      ∙ (λ i. record { stand = cond-not (on (made .state)) ended (not-zero why) i; prints = cond-not [] (refusedLine (numberOf why)) (not-zero why) i })
+
+  -- and the board is sound
+  pub made-is-sound : (v : ℕ) → made .answer ≡ Value v → Sound (made .state)
+  made-is-sound v e = subst SoundAt (ap (λ (t : Told). t .stand) (told-made v e)) (first-sound l)
+
+-- a piece that ends the first line
+module _ (b input out : List ℕ) (end : ℕ) (made : Answered) (part : Part) (found : end ≡ 0 + lineLength (drop 0 input)) (ends : end ≡ length input → ⊥) where
+  is : end ≡ lineLength input
+  is = found ∙ zero-add (lineLength input)
+
+  there : lineLength input < length input
+  there = omega (arith, is, ends, line-most input)
+
+  told-at : (t : Told) → answer before (b ++ take end input) ≡ t → answer before (b ++ take (lineLength input) input) ≡ t
+  told-at t e = ap (λ (k : ℕ). answer before (b ++ take k input)) (sym is) ∙ e
+
+  pub feeds-made : (out′ : List ℕ) → answer before (b ++ take end input) ≡ record { stand = on (made .state); prints = [] } →
+      Feeds (boarded (made .state)) (take (length input - (end + 1)) (drop (end + 1) input)) out out′ 0 part → Feeds (begunAt before b) input out out′ 0 part
+  feeds-made out′ e feeds =
+      feeds-through before b input out out out′ 0 part (record { stand = on (made .state); prints = [] }) there (told-at _ e) (record { bytes = refl; place = refl })
+      (subst (λ (l : List ℕ). Feeds (boarded (made .state)) l out out′ 0 part) (rest-of (end + 1) input ∙ ap (λ (k : ℕ). drop k input) (add-one end ∙ ap suc is)) feeds)
+
+  pub feeds-unmade : (mid : List ℕ) (written number : ℕ) → answer before (b ++ take end input) ≡ record { stand = ended; prints = refusedLine number } →
+      Written out mid 0 written (refusedLine number) → part ≡ record { replay = kept ended []; written = written } → Feeds (begunAt before b) input out mid 0 part
+  feeds-unmade mid written number e v f =
+      feeds-through before b input out mid mid written part (record { stand = ended; prints = refusedLine number }) there (told-at _ e) v
+      (feeds-ended (begunAt ended []) (drop (suc (lineLength input)) input) mid written part refl refl f)
+
+-- the line that is joined, as it is lent
+pub joined-cut : (l : List ℕ) (h : Held) → h ≡ record { bytes = padded l; count = length (take 256 l) } → take (h .count) (h .bytes) ≡ take 256 l
+joined-cut l h e = (λ i. take (e i .count) (e i .bytes)) ∙ padded-held l
+
+pub joined-room : (l : List ℕ) (h : Held) → h ≡ record { bytes = padded l; count = length (take 256 l) } → (h .count ≤ 256) × (length (h .bytes) ≡ 256)
+joined-room l h e = (
+  omega (arith, ap (λ (k : Held). k .count) e, length-take 256 l, min-le-left 256 (length l)),
+  ap (λ (k : Held). length (k .bytes)) e ∙ padded-length l,
+)
+
+-- what a fit replay may rely on
+pub fit-facts : (r : Replaying) → So (fit r) → (r .held ≤ 256) × (lineLength (take (r .held) (r .begun)) ≡ r .held) × So (boardSound (r .place) (r .state))
+unfolding fit allOf
+fit-facts r t =
+    let rest = and-right (leb (r .held) 256) _ t in (
+      leb-true _ _ (and-left (leb (r .held) 256) _ t),
+      eqb-true _ _ (and-left (eqb (lineLength (take (r .held) (r .begun))) (r .held)) _ rest),
+      and-left (boardSound (r .place) (r .state)) true (and-right (eqb (lineLength (take (r .held) (r .begun))) (r .held)) _ rest),
+    )

@@ -8,6 +8,7 @@ use lib.Dec.{ltb, eqb}
 use lib.ListN.{length, getD, take, drop}
 use Rattle.model.specs.declared.State.{State}
 use Rattle.model.specs.Refusals.{firstOf}
+use Rattle.model.specs.Sound.{Sound}
 use Rattle.commands.specs.declared.Command.{Command}
 use Rattle.replaying.specs.declared.Said.{Said}
 use Rattle.replaying.specs.declared.Said.the-variants.{Nothing, Value, Refused}
@@ -53,6 +54,7 @@ pub record Gone (s : State) (input out out′ : List ℕ) (from : ℕ) (w : Went
   pub fresh : fedAll (boarded s) (take (w .at) input) .begun ≡ []
   pub prints : Written out out′ from (w .written) (fedAll (boarded s) (take (w .at) input) .printed)
   pub room : w .written ≤ from + 20 * lineFeeds (take (w .at) input)
+  pub sound : Sound (w .state)
 
 -- a piece has been fed: the replay after it is held, and what it prints stands in the output from a place on
 pub record Feeds (r : Replay) (input out out′ : List ℕ) (from : ℕ) (part : Part) : Type 0 where

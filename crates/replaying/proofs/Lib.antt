@@ -5,3 +5,4 @@ pub mod Through
 pub mod KindLetters
 pub mod Example
 pub mod Boards
+pub mod InPieces

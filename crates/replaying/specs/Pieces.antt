@@ -1,7 +1,7 @@
 -- A script that comes in pieces: what is held of a replay from one piece to the next, and what a piece does to it.
 -- Assumes nothing.
 use mathlib.Core.Bool.{Bool, true, cond}
-use mathlib.Core.List.{List, [], _∷_}
+use mathlib.Core.List.{List, [], _∷_, _++_}
 use Prim.Native.Nat.{ℕ, suc, _+_, _/_}
 use lib.Dec.{leb, eqb}
 use lib.ListN.{length, take, replicate}
@@ -101,3 +101,26 @@ feeding r input output =
 -- the end of the script
 unfoldable pub ending : Replaying → List ℕ
 ending r = cond (fit r) (finished (lastIn (shown r .begun) (shown r))) []
+
+-- a script in pieces, each of them taken whole: the replay that is held after them, and what they print
+pub record Replayed : Type 0 where
+  pub replay : Replaying
+  pub printed : List ℕ
+
+unfoldable pub fedPieces : Replaying → List (List ℕ) → Replayed
+fedPieces r [] = record { replay = r; printed = [] }
+fedPieces r (piece ∷ pieces) =
+    let after : Replay = fedAll (shown r) piece in
+    let later : Replayed = fedPieces (kept (after .stand) (after .begun)) pieces in
+    record { replay = later .replay; printed = after .printed ++ later .printed }
+
+-- .. with the end of the script
+unfoldable pub printedInPieces : List (List ℕ) → List ℕ
+printedInPieces pieces =
+    let last : Replayed = fedPieces (kept before []) pieces in
+    last .printed ++ ending (last .replay)
+
+-- .. and the same script in one piece
+unfoldable pub joinedPieces : List (List ℕ) → List ℕ
+joinedPieces [] = []
+joinedPieces (piece ∷ pieces) = piece ++ joinedPieces pieces

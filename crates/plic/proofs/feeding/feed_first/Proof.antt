@@ -1,3 +1,21 @@
+-- `feeding::feed_first` meets its contract: no line ends; the first line makes a board; or it is refused.
+-- Assumes nothing.
+use mathlib.Core.Path.{_≡_, _∙_, sym, subst}
+use mathlib.Core.List.{List, _++_}
+use Prim.Native.Nat.{ℕ, _+_, _-_, _≤_}
+use native.Mathlib.Nat.{zero-add, min-le-left}
+use native.Mathlib.Omega.{arith}
+use lib.ListN.{length, take, drop, length-take}
+use lib.Seq.{length-take-le}
+use Rattle.model.specs.Refusals.{numberOf}
+use Rattle.replaying.specs.declared.Place.the-variants.{Before}
+use Rattle.replaying.specs.declared.Said.the-variants.{Refused}
+use Rattle.replaying.specs.Replay.{before, refusedLine}
+use Rattle.replaying.specs.Text.{saidBytes, Written}
+use Rattle.replaying.specs.Pieces.{padded, kept}
+use Rattle.replaying.proofs.Print.{written-put}
+use Rattle.replaying.proofs.Ends.{line-most, feeds-most}
+use Rattle.plic.proofs.Parts.{feeds-begun, feeds-made, feeds-unmade, told-made, told-unmade, made-is-sound, joined-cut, joined-room}
 use borrow.Author.Needs.{needs}
 use Rattle.plic.proofs.feeding.feed_first.Statement.{statement}
 use Rattle.plic.proofs.feeding.feed_first.Tie as tie
@@ -27,11 +45,16 @@ standing-requires c κs = search needs
 
 -- src/feeding.rt:107:9
 returns : tie.Need-returns
-returns c = ?
+unfolding kept
+returns c =
+    let a = c .before .before .before .before .before .before .before .args in
+    let l = a .begun .now ++ a .input .now in
+    feeds-begun before (a .begun .now) (a .input .now) (a .output .now) (c .standing .result) (sym (c .before .before .before .line-end .ensures ∙ zero-add _) ∙ c .before .before .if1 .taken)
+    (c .standing .ensures ∙ (λ i. record { replay = record { place = Before; state = c .before .zero .ensures i; begun = padded l; held = length (take 256 l) }; written = 0 }))
 
 -- src/feeding.rt:109:30
 slice-aggregate-joined : tie.Need-slice-aggregate-joined
-slice-aggregate-joined c = ?
+slice-aggregate-joined c = sym (length-take-le (c .before .before .line-end .result) (c .before .before .before .before .before .before .args .input .now) (omega (arith, c .before .before .line-end .ensures, line-most (c .before .before .before .before .before .before .args .input .now))))
 
 -- src/feeding.rt:109:9
 joined-requires : tie.Need-joined-requires
@@ -39,15 +62,21 @@ joined-requires c κs = search needs
 
 -- src/feeding.rt:112:27
 array-share-prefix-bytes : tie.Need-array-share-prefix-bytes
-array-share-prefix-bytes c = ?
+array-share-prefix-bytes c =
+    let room = joined-room _ (c .before .joined .result) (c .before .joined .ensures) in
+    omega (arith, room .0, room .1)
 
 -- src/feeding.rt:112:27
 slice-aggregate-first-line : tie.Need-slice-aggregate-first-line
-slice-aggregate-first-line c = ?
+slice-aggregate-first-line c =
+    let room = joined-room _ (c .before .before .joined .result) (c .before .before .joined .ensures) in
+    sym (length-take-le (c .before .before .joined .result .count) (c .before .before .joined .result .bytes) (omega (arith, room .0, room .1)))
 
 -- src/feeding.rt:112:9
 first-line-requires : tie.Need-first-line-requires
-first-line-requires c κs = ?
+first-line-requires c κs =
+    let room = joined-room _ (c .before .before .joined .result) (c .before .before .joined .ensures) in
+    omega (arith, room .0, length-take (c .before .before .joined .result .count) (c .before .before .joined .result .bytes), min-le-left (c .before .before .joined .result .count) (length (c .before .before .joined .result .bytes)))
 
 -- src/feeding.rt:116:24
 enum-told : tie.Need-enum-told
@@ -55,15 +84,15 @@ enum-told c = search needs
 
 -- src/feeding.rt:116:24
 add-from : tie.Need-add-from
-add-from c = ?
+add-from c = omega (arith, c .before .before .before .before .before .before .before .before .line-end .ensures, line-most (c .before .before .before .before .before .before .before .before .before .before .before .before .args .input .now), c .before .before .before .before .before .before .before .if1 .left, c .before .before .before .before .before .before .before .before .before .before .before .before .good .1 .0)
 
 -- src/feeding.rt:118:31
 sub-feed-lines : tie.Need-sub-feed-lines
-sub-feed-lines c = ?
+sub-feed-lines c = omega (arith, c .before .before .before .before .before .before .before .before .before .line-end .ensures, line-most (c .before .before .before .before .before .before .before .before .before .before .before .before .before .args .input .now), c .before .before .before .before .before .before .before .before .if1 .left)
 
 -- src/feeding.rt:118:31
 part-feed-lines-start : tie.Need-part-feed-lines-start
-part-feed-lines-start c = ?
+part-feed-lines-start c = omega (arith, c .before .before .before .before .before .before .before .before .before .line-end .ensures, line-most (c .before .before .before .before .before .before .before .before .before .before .before .before .before .args .input .now), c .before .before .before .before .before .before .before .before .if1 .left)
 
 -- src/feeding.rt:118:31
 part-feed-lines-end : tie.Need-part-feed-lines-end
@@ -71,7 +100,13 @@ part-feed-lines-end c = search needs
 
 -- src/feeding.rt:118:13
 feed-lines-requires : tie.Need-feed-lines-requires
-feed-lines-requires c κs = ?
+feed-lines-requires c κs =
+    let input = c .before .before .before .before .before .before .before .before .before .before .before .before .before .before .before .args .input .now in
+    let end = c .before .before .before .before .before .before .before .before .before .before .before .line-end .result in
+    let rest = take (length input - (end + 1)) (drop (end + 1) input) in (
+      made-is-sound (c .before .before .before .before .before .before .before .before .before .before .before .before .before .before .before .args .begun .now ++ take (c .before .before .before .before .before .before .before .before .before .before .before .line-end .result) (c .before .before .before .before .before .before .before .before .before .before .before .before .before .before .before .args .input .now)) _ (c .before .before .before .before .before .first-line .result) (joined-cut _ (c .before .before .before .before .before .before .before .before .joined .result) (c .before .before .before .before .before .before .before .before .joined .ensures)) (c .before .before .before .before .before .first-line .ensures) (c .before .before .before .enum-told .given .0 .0) (c .before .before .before .enum-told .given .1),
+      omega (arith, c .before .before .before .before .before .before .before .before .before .before .before .before .before .before .before .pre .1, feeds-most rest, length-take (length input - (end + 1)) (drop (end + 1) input), min-le-left (length input - (end + 1)) (length (drop (end + 1) input))),
+    )
 
 -- src/feeding.rt:120:25
 enum-known-answer : tie.Need-enum-known-answer
@@ -95,7 +130,10 @@ same-length c = search needs
 
 -- src/feeding.rt:101:1
 returns-2 : tie.Need-returns-2
-returns-2 c = ?
+returns-2 c =
+    feeds-made (c .before .before .before .before .before .before .before .before .before .before .before .before .before .before .before .before .before .before .args .begun .now) (c .before .before .before .before .before .before .before .before .before .before .before .before .before .before .before .before .before .before .args .input .now) (c .before .before .before .before .before .before .before .before .before .before .before .before .before .before .before .before .before .before .args .output .now) (c .before .before .before .before .before .before .before .before .before .before .before .before .before .before .line-end .result) (c .before .before .before .before .before .before .before .before .first-line .result) (c .before .before .feed-lines .result) (c .before .before .before .before .before .before .before .before .before .before .before .before .before .before .line-end .ensures) (c .before .before .before .before .before .before .before .before .before .before .before .before .before .if1 .left) (c .before .before .feed-lines .last .1 .1 .0)
+    (told-made (c .before .before .before .before .before .before .before .before .before .before .before .before .before .before .before .before .before .before .args .begun .now ++ take (c .before .before .before .before .before .before .before .before .before .before .before .before .before .before .line-end .result) (c .before .before .before .before .before .before .before .before .before .before .before .before .before .before .before .before .before .before .args .input .now)) _ (c .before .before .before .before .before .before .before .before .first-line .result) (joined-cut _ (c .before .before .before .before .before .before .before .before .before .before .before .joined .result) (c .before .before .before .before .before .before .before .before .before .before .before .joined .ensures)) (c .before .before .before .before .before .before .before .before .first-line .ensures) (c .before .before .before .before .before .before .enum-told .given .0 .0) (c .before .before .before .before .before .before .enum-told .given .1))
+    (c .before .before .feed-lines .ensures)
 
 -- src/feeding.rt:101:1
 same-length-2 : tie.Need-same-length-2
@@ -103,7 +141,15 @@ same-length-2 c = search needs
 
 -- src/feeding.rt:101:1
 returns-3 : tie.Need-returns-3
-returns-3 c = ?
+unfolding saidBytes
+returns-3 c =
+    let a = c .before .before .before .before .before .before .before .before .before .before .before .before .before .before .before .before .before .before .before .args in
+    let why = c .before .before .before .before .before .before .before .answer .given .0 .0 in
+    let enough : 0 + 20 ≤ length (a .output .now) = omega (arith, c .before .before .before .before .before .before .before .before .before .before .before .before .before .before .before .before .before .before .before .pre .1, c .before .before .before .before .before .before .before .before .before .before .before .before .before .before .before .line-end .ensures, line-most (c .before .before .before .before .before .before .before .before .before .before .before .before .before .before .before .before .before .before .before .args .input .now), c .before .before .before .before .before .before .before .before .before .before .before .before .before .before .if1 .left) in
+    let said = written-put 20 (saidBytes (Refused (c .before .before .before .before .before .number-of .result))) (a .output .now) (c .before .before .before .put-said .last .1 .0) 0 (c .before .before .before .put-said .result) enough (c .before .before .before .put-said .ensures .0) in
+    feeds-unmade (a .begun .now) (a .input .now) (a .output .now) (c .before .before .before .before .before .before .before .before .before .before .before .before .before .before .before .line-end .result) (c .before .before .before .before .before .before .before .before .before .first-line .result) (c .at-end .result) (c .before .before .before .before .before .before .before .before .before .before .before .before .before .before .before .line-end .ensures) (c .before .before .before .before .before .before .before .before .before .before .before .before .before .before .if1 .left) (c .before .before .before .put-said .last .1 .0) (c .before .before .before .put-said .result) (numberOf why)
+    (told-unmade (c .before .before .before .before .before .before .before .before .before .before .before .before .before .before .before .before .before .before .before .args .begun .now ++ take (c .before .before .before .before .before .before .before .before .before .before .before .before .before .before .before .line-end .result) (c .before .before .before .before .before .before .before .before .before .before .before .before .before .before .before .before .before .before .before .args .input .now)) _ (c .before .before .before .before .before .before .before .before .before .first-line .result) (joined-cut _ (c .before .before .before .before .before .before .before .before .before .before .before .before .joined .result) (c .before .before .before .before .before .before .before .before .before .before .before .before .joined .ensures)) (c .before .before .before .before .before .before .before .before .before .first-line .ensures) why (c .before .before .before .before .before .before .before .answer .given .1))
+    (subst (λ (k : ℕ). Written (a .output .now) (c .before .before .before .put-said .last .1 .0) 0 (c .before .before .before .put-said .result) (refusedLine k)) (c .before .before .before .before .before .number-of .ensures) said) (c .at-end .ensures)
 
 pub feed-first-spec : {M : Type 1} → statement M
 feed-first-spec =

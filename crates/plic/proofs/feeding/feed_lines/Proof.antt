@@ -1,3 +1,6 @@
+-- `feeding::feed_lines` meets its contract: the lines, and the line that has begun after them.
+-- Assumes nothing.
+use Rattle.plic.proofs.Parts.{feeds-rest}
 use borrow.Author.Needs.{needs}
 use Rattle.plic.proofs.feeding.feed_lines.Statement.{statement}
 use Rattle.plic.proofs.feeding.feed_lines.Tie as tie
@@ -36,7 +39,7 @@ same-length c = search needs
 
 -- src/feeding.rt:53:1
 returns : tie.Need-returns
-returns c = ?
+returns c = feeds-rest (c .before .before .before .before .before .before .before .before .before .before .args .state) (c .before .before .before .before .before .before .before .before .before .before .args .input .now) (c .before .before .before .before .before .before .before .before .before .before .args .output .now) (c .before .before .before .before .before .before .lines-on .last .1 .1 .0) (c .before .before .before .before .before .before .before .before .before .before .args .from) (c .before .before .before .before .before .before .lines-on .result) (c .standing .result) (c .before .before .before .before .before .before .lines-on .ensures) (c .standing .ensures)
 
 pub feed-lines-spec : {M : Type 1} → statement M
 feed-lines-spec =

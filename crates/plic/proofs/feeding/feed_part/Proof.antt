@@ -1,3 +1,19 @@
+-- `feeding::feed_part` meets its contract, wherever the replay stands.
+-- Assumes nothing.
+use mathlib.Core.Path.{_≡_, _∙_, refl, sym, ap, subst}
+use mathlib.Core.Bool.{So}
+use mathlib.Core.List.{List}
+use native.Mathlib.Omega.{arith}
+use Prim.Native.Nat.{ℕ}
+use lib.ListN.{length, take}
+use lib.Seq.{length-take-le}
+use Rattle.model.proofs.Sound.{sound-facts}
+use Rattle.replaying.specs.declared.Place.{Place}
+use Rattle.replaying.specs.declared.Replaying.{Replaying}
+use Rattle.replaying.specs.Pieces.{begunAt, standOf, shown, boardSound}
+use Rattle.plic.specs.declared.feeding.Part.{Part}
+use Rattle.plic.specs.Engine.{Feeds}
+use Rattle.plic.proofs.Parts.{fit-facts, feeds-ended}
 use borrow.Author.Needs.{needs}
 use Rattle.plic.proofs.feeding.feed_part.Statement.{statement}
 use Rattle.plic.proofs.feeding.feed_part.Tie as tie
@@ -11,17 +27,29 @@ use Rattle.plic.proofs.feeding.feed_first.Reads as feed-first-reads
 enum-told : tie.Need-enum-told
 enum-told c = search needs
 
+begun-room : (c : tie.Start) → length (c .args .replay .begun) ≡ 256
+begun-room c = search needs
+
+held-length : (c : tie.Start) → length (take (c .args .replay .held) (c .args .replay .begun)) ≡ c .args .replay .held
+held-length c = length-take-le (c .args .replay .held) (c .args .replay .begun) (omega (arith, begun-room c, fit-facts (c .args .replay) (c .pre .0) .0))
+
+-- the place that was found is where the replay stands
+stood : (r : Replaying) (input out out′ : List ℕ) (part : Part) {p : Place} → r .place ≡ p →
+    Feeds (begunAt (standOf p (r .state)) (take (r .held) (r .begun))) input out out′ 0 part → Feeds (shown r) input out out′ 0 part
+unfolding shown
+stood r input out out′ part e f = subst (λ (q : Place). Feeds (begunAt (standOf q (r .state)) (take (r .held) (r .begun))) input out out′ 0 part) (sym e) f
+
 -- src/feeding.rt:137:37
 array-share-prefix-begun : tie.Need-array-share-prefix-begun
-array-share-prefix-begun c = ?
+array-share-prefix-begun c = omega (arith, begun-room (c .before .before .before .before .before), fit-facts (c .before .before .before .before .before .args .replay) (c .before .before .before .before .before .pre .0) .0)
 
 -- src/feeding.rt:137:37
 slice-aggregate-feed-first : tie.Need-slice-aggregate-feed-first
-slice-aggregate-feed-first c = ?
+slice-aggregate-feed-first c = sym (held-length (c .before .before .before .before .before .before))
 
 -- src/feeding.rt:137:26
 feed-first-requires : tie.Need-feed-first-requires
-feed-first-requires c κs = ?
+feed-first-requires c κs = (omega (arith, held-length (c .before .before .before .before .before .before .before), fit-facts (c .before .before .before .before .before .before .before .args .replay) (c .before .before .before .before .before .before .before .pre .0) .0), c .before .before .before .before .before .before .before .pre .1)
 
 -- src/feeding.rt:138:47
 enum-told-2 : tie.Need-enum-told-2
@@ -29,15 +57,22 @@ enum-told-2 c = search needs
 
 -- src/feeding.rt:138:47
 array-share-prefix-begun-2 : tie.Need-array-share-prefix-begun-2
-array-share-prefix-begun-2 c = ?
+array-share-prefix-begun-2 c = omega (arith, begun-room (c .before .before .before .before .before), fit-facts (c .before .before .before .before .before .args .replay) (c .before .before .before .before .before .pre .0) .0)
 
 -- src/feeding.rt:138:47
 slice-aggregate-feed-board : tie.Need-slice-aggregate-feed-board
-slice-aggregate-feed-board c = ?
+slice-aggregate-feed-board c = sym (held-length (c .before .before .before .before .before .before))
 
 -- src/feeding.rt:138:22
 feed-board-requires : tie.Need-feed-board-requires
-feed-board-requires c κs = ?
+unfolding boardSound
+feed-board-requires c κs =
+    let facts = fit-facts (c .before .before .before .before .before .before .before .args .replay) (c .before .before .before .before .before .before .before .pre .0) in (
+      sound-facts _ (subst (λ (p : Place). So (boardSound p (c .before .before .before .before .before .before .before .args .replay .state))) (c .before .before .enum-told2 .given .1) (facts .2)),
+      omega (arith, held-length (c .before .before .before .before .before .before .before), facts .0),
+      facts .1 ∙ sym (held-length (c .before .before .before .before .before .before .before)),
+      c .before .before .before .before .before .before .before .pre .1,
+    )
 
 -- src/feeding.rt:139:25
 enum-told-3 : tie.Need-enum-told-3
@@ -53,7 +88,8 @@ same-length c = search needs
 
 -- src/feeding.rt:129:1
 returns : tie.Need-returns
-returns c = ?
+unfolding standOf
+returns c = stood (c .before .before .before .before .before .before .before .before .before .before .args .replay) (c .before .before .before .before .before .before .before .before .before .before .args .input .now) (c .before .before .before .before .before .before .before .before .before .before .args .output .now) (c .before .before .feed-first .last .1 .1 .0) (c .before .before .feed-first .result) (c .before .before .before .before .before .enum-told .given .1) (c .before .before .feed-first .ensures)
 
 -- src/feeding.rt:129:1
 same-length-2 : tie.Need-same-length-2
@@ -61,11 +97,13 @@ same-length-2 c = search needs
 
 -- src/feeding.rt:129:1
 returns-2 : tie.Need-returns-2
-returns-2 c = ?
+unfolding standOf
+returns-2 c = stood (c .before .before .before .before .before .before .before .before .before .before .args .replay) (c .before .before .before .before .before .before .before .before .before .before .args .input .now) (c .before .before .before .before .before .before .before .before .before .before .args .output .now) (c .before .before .feed-board .last .1 .1 .1 .0) (c .before .before .feed-board .result) (c .before .before .before .before .before .enum-told2 .given .1) (c .before .before .feed-board .ensures)
 
 -- src/feeding.rt:129:1
 returns-3 : tie.Need-returns-3
-returns-3 c = ?
+unfolding shown standOf
+returns-3 c = feeds-ended (shown (c .before .before .before .before .before .before .args .replay)) (c .before .before .before .before .before .before .args .input .now) (c .before .before .before .before .before .before .args .output .now) 0 (c .at-end .result) (ap (λ (p : Place). standOf p (c .before .before .before .before .before .before .args .replay .state)) (c .before .enum-told3 .given .1)) refl (c .at-end .ensures)
 
 pub feed-part-spec : {M : Type 1} → statement M
 feed-part-spec =

@@ -1,3 +1,14 @@
+-- `held::ended` meets its contract: there is room for the line feed, or the line is too long.
+-- Assumes nothing.
+use mathlib.Core.Path.{_≡_, _∙_, sym, ap}
+use mathlib.Core.List.{List, [], _∷_, _++_}
+use mathlib.Core.Logic.{⊎-elim}
+use Prim.Native.Nat.{ℕ, _+_, _<_}
+use native.Mathlib.Omega.{arith}
+use lib.ListN.{length, take, set}
+use Rattle.plic.specs.declared.held.Held.{Held}
+use Rattle.plic.specs.Engine.{standIn}
+use Rattle.plic.proofs.Parts.{ended-full, ended-part}
 use borrow.Author.Needs.{needs}
 use Rattle.plic.proofs.held.ended.Statement.{statement}
 use Rattle.plic.proofs.held.ended.Tie as tie
@@ -5,21 +16,33 @@ use Rattle.plic.proofs.held.ended.Reads as reads
 use Rattle.plic.proofs.held.ended.Lts as lts
 use Rattle.plic.proofs.held.joined.Reads as joined-reads
 
--- src/held.rt:53:9
+-- in both cases of the room the line stands with its line feed
+came : (c : tie.Joined1) →
+    let l = c .before .before .before .before .before .args .first .now ++ c .before .before .before .before .before .args .more .now in
+    (take (c .if1 .held + 1) (set (c .before .before .joined .result .bytes) (c .if1 .held) 10) ≡ standIn l ++ (10 ∷ [])) × (c .if1 .held < 256)
+came c =
+    let l = c .before .before .before .before .before .args .first .now ++ c .before .before .before .before .before .args .more .now in
+    let bytes = ap (λ (h : Held). h .bytes) (c .before .before .joined .ensures) in
+    let count = ap (λ (h : Held). h .count) (c .before .before .joined .ensures) in
+    ⊎-elim
+    (λ w. ended-full l (c .before .before .joined .result .bytes) (c .if1 .held) bytes (sym count ∙ w .0 .taken) (w .1))
+    (λ w. ended-part l (c .before .before .joined .result .bytes) (c .if1 .held) bytes (λ e. w .0 .left (count ∙ e)) (w .1 ∙ count))
+    (c .if1 .came)
+
 joined-requires : tie.Need-joined-requires
 joined-requires c κs = search needs
 
 -- src/held.rt:59:5
 array-write-bytes : tie.Need-array-write-bytes
-array-write-bytes c = ?
+array-write-bytes c = came c .1
 
 -- src/held.rt:62:16
 add-t10 : tie.Need-add-t10
-add-t10 c = ?
+add-t10 c = omega (arith, came (c .before) .1)
 
 -- src/held.rt:49:1
 returns : tie.Need-returns
-returns c = ?
+returns c = (came (c .before) .0, omega (arith, came (c .before) .1))
 
 pub ended-spec : {M : Type 1} → statement M
 ended-spec = tie.close (tie.spec joined-requires array-write-bytes add-t10 returns)
