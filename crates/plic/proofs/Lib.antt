@@ -6,5 +6,6 @@ pub mod Answers
 pub mod Obeyed
 pub mod Going
 pub mod Parts
+pub mod Endings
 pub mod Once
 pub mod Accepted

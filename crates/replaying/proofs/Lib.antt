@@ -6,3 +6,4 @@ pub mod KindLetters
 pub mod Example
 pub mod Boards
 pub mod InPieces
+pub mod Short
