@@ -1,0 +1,57 @@
+// Up to 256 bytes by value: a line that is read, a line to write, a list of kind bytes.
+
+pub(crate) struct Text {
+    pub(crate) bytes: [u8; 256],
+    pub(crate) length: usize,
+}
+
+// Copies as much of a part as there is room for to the place `at`, and gives the place after it.
+pub(crate) fn append(to: &mut [u8], at: usize, part: &[u8]) -> usize {
+    let mut end = at;
+    let mut i = 0;
+    while i < part.len() {
+        if to.len() <= end {
+            return end;
+        }
+        to[end] = part[i];
+        end += 1;
+        i += 1;
+    }
+    end
+}
+
+// The first n bytes, or all where there are fewer.
+pub(crate) fn first(bytes: &[u8], n: usize) -> &[u8] {
+    if n <= bytes.len() {
+        return &bytes[0..n];
+    }
+    bytes
+}
+
+impl Text {
+    pub(crate) fn empty() -> Text {
+        Text {
+            bytes: [0u8; 256],
+            length: 0,
+        }
+    }
+
+    pub(crate) fn of(part: &[u8]) -> Text {
+        Text::empty().with(part)
+    }
+
+    pub(crate) fn with(self, part: &[u8]) -> Text {
+        let mut bytes = self.bytes;
+        let end = append(&mut bytes, self.length, part);
+        Text {
+            bytes: bytes,
+            length: end,
+        }
+    }
+
+    pub(crate) fn number(self, n: u64) -> Text {
+        let mut digits = [0u8; 20];
+        let k = io::decimal(n, &mut digits);
+        self.with(&digits[..k])
+    }
+}

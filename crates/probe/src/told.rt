@@ -1,0 +1,102 @@
+// What a call answered, and what is printed of it.
+use crate::text::Text;
+use model::Answer;
+use model::Answered;
+use model::Mean;
+use model::Refusal;
+use model::State;
+use model::Totals;
+
+// What is printed, and the state at hand afterwards.
+pub(crate) struct Told {
+    pub(crate) text: Text,
+    pub(crate) state: State,
+}
+
+pub(crate) fn silent(state: State) -> Told {
+    Told {
+        text: Text::empty(),
+        state: state,
+    }
+}
+
+fn refused(state: State, why: Refusal) -> Told {
+    Told {
+        text: Text::of(b"refused ")
+            .number(plic::number_of(why) as u64)
+            .with(b"\n"),
+        state: state,
+    }
+}
+
+pub(crate) fn unreadable(state: State) -> Told {
+    refused(state, Refusal::Unreadable)
+}
+
+// What a call answered: its value after the label, and nothing where there is no label.
+pub(crate) fn answer(label: &[u8], got: Answered) -> Told {
+    let given = got.answer;
+    let state = got.state;
+    match given {
+        Answer::Refused(why) => refused(state, why),
+        Answer::Value(v) => {
+            if label.len() == 0 {
+                return silent(state);
+            }
+            Told {
+                text: Text::of(label).number(v as u64).with(b"\n"),
+                state: state,
+            }
+        }
+    }
+}
+
+pub(crate) fn mean(state: State) -> Told {
+    let got = plic::mean(state);
+    let given = got.mean;
+    let next = got.state;
+    match given {
+        Mean::Refused(why) => refused(next, why),
+        Mean::Of(ticks, claims) => Told {
+            text: Text::of(b"M ")
+                .number(ticks)
+                .with(b" ")
+                .number(claims as u64)
+                .with(b"\n"),
+            state: next,
+        },
+    }
+}
+
+pub(crate) fn totals(state: State) -> Told {
+    let got = plic::totals(state);
+    let given = got.totals;
+    let next = got.state;
+    match given {
+        Totals::Refused(why) => refused(next, why),
+        Totals::Of(clock, claims, waited, open) => {
+            let counted = Text::of(b"clock ")
+                .number(clock as u64)
+                .with(b" claims ")
+                .number(claims as u64);
+            Told {
+                text: counted
+                    .with(b" waited ")
+                    .number(waited)
+                    .with(b" open ")
+                    .number(open)
+                    .with(b"\n"),
+                state: next,
+            }
+        }
+    }
+}
+
+pub(crate) fn is_sound(state: State) -> Told {
+    Told {
+        text: Text::of(b"S ")
+            .number(plic::is_sound(state) as u64)
+            .with(b"\n"),
+        state: state,
+    }
+}

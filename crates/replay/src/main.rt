@@ -1,0 +1,64 @@
+// The replay program: standard input to standard output, as document 01's section "Replay" says. It reads a piece, feeds it and writes
+// what was printed, before it waits for more; what is printed is decided, and proved, in the library.
+use libc::STDIN_FILENO;
+use libc::STDOUT_FILENO;
+use replaying::Replaying;
+use replaying::Taken;
+
+// The replay after a piece, and whether to go on.
+struct Stepped {
+    replay: Replaying,
+    goes_on: bool,
+}
+
+// Writes the first n bytes, and answers whether they could be written.
+fn write_first(bytes: &[u8], n: usize) -> bool {
+    if bytes.len() < n {
+        return false;
+    }
+    io::write_all(STDOUT_FILENO, &bytes[..n])
+}
+
+// Feeds a piece, and writes what it prints.
+fn step(replay: Replaying, input: &[u8], output: &mut [u8]) -> Stepped {
+    let fed = plic::feed(replay, input, output);
+    let taken = fed.taken;
+    let next = fed.replay;
+    match taken {
+        Taken::Bytes(_, written) => Stepped {
+            replay: next,
+            goes_on: write_first(output, written),
+        },
+        Taken::Refused(_) => Stepped {
+            replay: next,
+            goes_on: false,
+        },
+    }
+}
+
+// The output has 20 bytes for each of the input, so that every piece is taken whole. An input that fails has ended, and a closed output
+// ends the program. Nothing says that an input ends, and a proved loop has to: so the turns are counted down, from a number that no run
+// uses up.
+fn main() {
+    let mut input = [0u8; 16384];
+    let mut output = [0u8; 327680];
+    let mut replay = plic::start();
+    let mut turns = u64::MAX;
+    while turns > 0 {
+        let got = libc::read(STDIN_FILENO, &mut input);
+        let n = io::count(got, &input);
+        if n == 0 {
+            break;
+        }
+        let made = step(replay, &input[..n], &mut output);
+        if !made.goes_on {
+            return;
+        }
+        let next = made.replay;
+        replay = next;
+        turns -= 1;
+    }
+    let ending = plic::finish(replay);
+    let bytes = ending.bytes;
+    write_first(&bytes, ending.length);
+}
