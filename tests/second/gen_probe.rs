@@ -5,7 +5,8 @@
 use crate::field::{self, FIELDS};
 use crate::gen::{Board, Dice, TOP, claim_offset, finish, read_at, write_at};
 use crate::gen_unsound::{BREAKS, EDGES};
-use crate::probe::Probe;
+use crate::model::Controller;
+use crate::probe;
 use crate::sound;
 use crate::spoil;
 
@@ -23,11 +24,11 @@ const STYLES: [fn(&mut Scene, u64); 9] = [
     makes,
 ];
 
-/// A script in the making: its lines, and the probe that has obeyed them.
+/// A script in the making: its lines, and the state at hand after them.
 pub struct Scene {
     pub dice: Dice,
     pub board: Board,
-    probe: Probe,
+    state: Controller,
     lines: Vec<Vec<u8>>,
     /// Fields put since the last trial, with what they held before.
     undo: Vec<(&'static str, usize, u64)>,
@@ -36,7 +37,7 @@ pub struct Scene {
 pub fn script(seed: u64) -> Vec<u8> {
     let mut dice = Dice::new(seed ^ 0x5EED);
     let board = Board::any(&mut dice);
-    let mut scene = Scene { dice, board, probe: Probe::new(), lines: Vec::new(), undo: Vec::new() };
+    let mut scene = Scene { dice, board, state: Controller::zero(), lines: Vec::new(), undo: Vec::new() };
     if scene.dice.chance(10) {
         // The state at hand before anything is made.
         scene.try_every_call();
@@ -50,13 +51,13 @@ pub fn script(seed: u64) -> Vec<u8> {
 
 impl Scene {
     pub fn say(&mut self, line: impl AsRef<[u8]>) {
-        self.probe.obey(line.as_ref());
+        probe::obey(&mut self.state, line.as_ref());
         self.lines.push(line.as_ref().to_vec());
     }
 
     pub fn get(&self, name: &str, index: usize) -> u64 {
         let field = field::named(name.as_bytes()).expect("a field of the probe");
-        (field.get)(&self.probe.state, index)
+        (field.get)(&self.state, index)
     }
 
     pub fn put(&mut self, name: &'static str, index: usize, value: u64) {
@@ -145,7 +146,7 @@ impl Scene {
     /// Tries every call on the state at hand, which `put` has brought about,
     /// and brings back a sound one.
     fn trial(&mut self) {
-        let was_sound = sound::is_sound(&self.probe.state);
+        let was_sound = sound::is_sound(&self.state);
         self.try_every_call();
         // Accepted calls have moved on, so there is nothing to put back to.
         if was_sound { self.make() } else { self.put_back() }
@@ -161,7 +162,10 @@ impl Scene {
     }
 }
 
-fn traffic_and_reports(scene: &mut Scene, _: u64) {
+/// Half of the scripts start with every source pending.
+fn traffic_and_reports(scene: &mut Scene, turn: u64) {
+    let raised = if turn % 2 == 0 { scene.board.n } else { 0 };
+    (1..=raised).for_each(|id| scene.say(format!("L {id} 1")));
     for _ in 0..8 {
         scene.traffic(15);
         scene.reports();

@@ -283,6 +283,13 @@ fn extra_edges(s: &mut Scene) {
         let value = s.dice.pick(&[1, 254, 255]);
         s.look_at_edge(&[("stage", id, stage), ("extra", id, value)]);
     }
+    s.make();
+    s.put("stage", COUNTING, 1);
+    s.put("extra", COUNTING, 254);
+    for level in [1, 0, 1, 0, 1] {
+        s.say(format!("L {COUNTING} {level}"));
+    }
+    s.say("V");
 }
 
 fn lines_and_stages(s: &mut Scene) {

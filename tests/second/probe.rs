@@ -8,10 +8,6 @@ use crate::words::{self, Command, number, number_32};
 
 const UNREADABLE: Refusal = 11;
 
-pub struct Probe {
-    pub state: Controller,
-}
-
 /// What a readable line asks for.
 enum Request {
     Make { shape: [u64; 3], kinds: Vec<u8> },
@@ -27,46 +23,39 @@ enum Request {
 
 /// What a whole input prints.
 pub fn run(input: &[u8]) -> String {
-    let mut probe = Probe::new();
-    words::lines(input).into_iter().map(|line| probe.obey(line)).collect()
+    let mut state = Controller::zero();
+    words::lines(input).into_iter().map(|line| obey(&mut state, line)).collect()
 }
 
-impl Probe {
-    pub fn new() -> Probe {
-        Probe { state: Controller::zero() }
-    }
+/// Obeys one line and gives what it prints, line feeds included.
+pub fn obey(state: &mut Controller, line: &[u8]) -> String {
+    let answer = request(line).ok_or(UNREADABLE).and_then(|request| answer(state, request));
+    answer.unwrap_or_else(|number| format!("refused {number}\n"))
+}
 
-    /// Obeys one line and gives what it prints, line feeds included.
-    pub fn obey(&mut self, line: &[u8]) -> String {
-        let answer = request(line).ok_or(UNREADABLE).and_then(|request| self.answer(request));
-        answer.unwrap_or_else(|number| format!("refused {number}\n"))
-    }
+fn answer(state: &mut Controller, request: Request) -> Result<String, Refusal> {
+    Ok(match request {
+        Request::Make { shape, kinds } => make(state, shape, &kinds)?,
+        Request::Step(command) => command.run(state)?.map_or(String::new(), |text| text + "\n"),
+        Request::Mean => state.mean().map(|(ticks, claims)| format!("M {ticks} {claims}\n"))?,
+        Request::ByClaim(per_mille) => format!("A {}\n", state.percentile_by_claim(per_mille)?),
+        Request::ByTime(per_mille) => format!("B {}\n", state.percentile_by_time(per_mille)?),
+        Request::Totals => words::totals(state)? + "\n",
+        Request::IsSound => format!("S {}\n", u64::from(sound::is_sound(state))),
+        Request::Put { field, index, value } => {
+            (field.set)(state, index, value);
+            String::new()
+        }
+        Request::Look => look(state),
+    })
+}
 
-    fn answer(&mut self, request: Request) -> Result<String, Refusal> {
-        let state = &mut self.state;
-        Ok(match request {
-            Request::Make { shape, kinds } => self.make(shape, &kinds)?,
-            Request::Step(command) => command.run(state)?.map_or(String::new(), |text| text + "\n"),
-            Request::Mean => state.mean().map(|(ticks, claims)| format!("M {ticks} {claims}\n"))?,
-            Request::ByClaim(per_mille) => format!("A {}\n", state.percentile_by_claim(per_mille)?),
-            Request::ByTime(per_mille) => format!("B {}\n", state.percentile_by_time(per_mille)?),
-            Request::Totals => words::totals(state)? + "\n",
-            Request::IsSound => format!("S {}\n", u64::from(sound::is_sound(state))),
-            Request::Put { field, index, value } => {
-                (field.set)(state, index, value);
-                String::new()
-            }
-            Request::Look => look(state),
-        })
-    }
-
-    /// A refused make leaves a state that is zero throughout.
-    fn make(&mut self, [n, c, b]: [u64; 3], kinds: &[u8]) -> Result<String, Refusal> {
-        let made = Controller::make(n, c, b, kinds);
-        let refused = made.as_ref().err().copied();
-        self.state = made.unwrap_or_else(|_| Controller::zero());
-        refused.map_or(Ok(String::new()), Err)
-    }
+/// A refused make leaves a state that is zero throughout.
+fn make(state: &mut Controller, [n, c, b]: [u64; 3], kinds: &[u8]) -> Result<String, Refusal> {
+    let made = Controller::make(n, c, b, kinds);
+    let refused = made.as_ref().err().copied();
+    *state = made.unwrap_or_else(|_| Controller::zero());
+    refused.map_or(Ok(String::new()), Err)
 }
 
 fn look(state: &Controller) -> String {

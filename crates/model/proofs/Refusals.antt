@@ -38,11 +38,11 @@ number-back Unreadable = (10, refl, refl)
 
 -- reading a number back: 0 is an acceptance, any other a refusal
 module _ {A : Type 0} (accepted : A) (refused : Refusal → A) where
-  back : ℕ → A
+  unfoldable pub back : ℕ → A
   back zero = accepted
   back (suc k) = refused (refusalOf (suc k))
 
-  back-refused : (r : Refusal) → back (numberOf r) ≡ refused r
+  pub back-refused : (r : Refusal) → back (numberOf r) ≡ refused r
   unfolding back
   back-refused r = let n = number-back r in ap back (n .1) ∙ ap refused (n .2)
 

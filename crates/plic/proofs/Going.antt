@@ -11,11 +11,10 @@ use Rattle.commands.specs.Grammar.{commandOf}
 use Rattle.commands.specs.declared.Command.{Command}
 use Rattle.replaying.specs.declared.Said.{Said}
 use Rattle.replaying.specs.Replay.{on, Told, commanded, answer, Replay, fedAll}
-use Rattle.replaying.specs.Text.{saidBytes, Written, Put, put}
+use Rattle.replaying.specs.Text.{saidBytes, Written, put}
 use Rattle.replaying.specs.Pieces.{lineLength, lineFeeds}
 use Rattle.replaying.proofs.Print.{written-length, written-then, written-put}
 use Rattle.replaying.proofs.Ends.{line-most, line-more, feeds-part, feeds-more}
-use Rattle.plic.specs.declared.lines.Went.{Went}
 use Rattle.plic.specs.Engine.{Obeyed, boarded, Gone}
 use Rattle.plic.proofs.Obeyed.{obeyed-sound}
 

@@ -23,7 +23,7 @@ use Rattle.model.proofs.Calls.{accepted-as, stays-sound}
 use Rattle.commands.specs.declared.Command.{Command}
 use Rattle.commands.specs.declared.Command.the-variants.{Make, Line, Advance, Read, Write, Notify, Unreadable}
 use Rattle.replaying.specs.declared.Said.{Said}
-use Rattle.replaying.specs.declared.Said.the-variants.{Nothing, Value, Refused}
+use Rattle.replaying.specs.declared.Said.the-variants.{Refused}
 use Rattle.replaying.specs.Replay.{Stand, before, on, ended, Told, goesOn, silent, commanded, refusedLine, valueLine}
 use Rattle.replaying.specs.Text.{saidBytes}
 use Rattle.plic.specs.declared.obey.Did.{Did}

@@ -1,16 +1,16 @@
 -- What feeding a piece rests on: when a replay is fit, what the first line comes to, and how the parts of a piece go together.
 -- Assumes nothing.
 use mathlib.Core.Path.{_≡_, _∙_, refl, sym, ap, subst}
-use mathlib.Core.Bool.{Bool, true, cond, _&&_, So, and-true}
+use mathlib.Core.Bool.{Bool, true, _&&_, So, and-true}
 use mathlib.Core.List.{List, [], _∷_, _++_}
 use mathlib.Core.Logic.{⊎-elim}
-use Prim.Native.Nat.{ℕ, suc, _+_, _-_, _*_, _≤_, _<_}
+use Prim.Native.Nat.{ℕ, suc, _+_, _-_, _≤_, _<_}
 use native.Mathlib.Nat.{zero-add, add-zero, min-le-left, min-le-right}
 use native.Mathlib.Numerals.{add-one}
 use native.Mathlib.Omega.{arith}
 use lib.Dec.{leb, ltb, eqb}
 use lib.ListN.{length, take, drop, set, replicate, length-append, length-take, length-drop, length-replicate, take-append-drop}
-use lib.Seq.{sets, length-sets, take-all, take-length, take-suc-set, take-append-add, take-append-seam, take-at, drop-append-le, length-take-le}
+use lib.Seq.{sets, length-sets, take-all, take-length, take-suc-set, take-append-add, take-append-seam, drop-append-le, length-take-le}
 use borrow.Author.Tests.{le-leb, leb-true, leb-false, eq-eqb, eqb-true, ltb-true, ltb-false, lt-ltb, le-ltb}
 use Rattle.laws.specs.Fold.{allOf}
 use Rattle.laws.proofs.Truth.{and-left, and-right, cond-so, cond-not, cond-elim, dichotomy}

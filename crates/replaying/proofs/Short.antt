@@ -1,6 +1,5 @@
 -- How long an answer can be: 29 bytes, whatever its numbers.
 -- Assumes nothing.
-use mathlib.Core.Path.{_≡_, ap}
 use mathlib.Core.List.{List, [], _∷_, _++_}
 use Prim.Native.Nat.{ℕ, zero, suc, _+_, _/_, _%_, _≤_}
 use native.Mathlib.Omega.{arith}

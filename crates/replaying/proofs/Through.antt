@@ -1,15 +1,15 @@
 -- A piece of a script, line by line: what is printed before stands before; a line in it, and the lines after it; after the end nothing
 -- is printed; and a line over 255 bytes is as unreadable cut to 256.
 -- Assumes nothing.
-use mathlib.Core.Path.{_≡_, _∙_, refl, sym, ap, subst}
+use mathlib.Core.Path.{_≡_, _∙_, refl, sym, ap}
 use mathlib.Core.Bool.{Bool, true, false, cond, So}
 use mathlib.Core.List.{List, [], _∷_, _++_, append-assoc, append-nil}
 use mathlib.Core.Logic.{⊎-elim}
-use Prim.Native.Nat.{ℕ, zero, suc, _+_, _≤_, _<_, suc-le-suc}
-use native.Mathlib.Nat.{zero-add, add-zero, suc-add, suc-inj, suc-ne-zero}
+use Prim.Native.Nat.{ℕ, zero, suc, _+_, _<_}
+use native.Mathlib.Nat.{zero-add, suc-add, suc-inj, suc-ne-zero}
 use native.Mathlib.Omega.{arith}
-use lib.Dec.{leb, ltb, eqb}
-use lib.ListN.{length, take, drop, length-append, take-append-drop, length-drop}
+use lib.Dec.{leb, eqb}
+use lib.ListN.{length, take, drop, take-append-drop}
 use lib.Seq.{take-length, length-take-le, take-all}
 use borrow.Author.Tests.{lt-ltb, leb-true, leb-false}
 use Rattle.laws.proofs.Truth.{cond-so, dichotomy}
@@ -19,7 +19,7 @@ use Rattle.commands.specs.declared.Command.the-variants.{Unreadable}
 use Rattle.replaying.specs.Replay.{Stand, before, on, ended, Told, commanded, firstLine, answer, Replay, lineEnds, fed, fedAll}
 use Rattle.replaying.specs.Pieces.{lineLength, lineFeeds, begunAt}
 use Rattle.replaying.proofs.Chunks.{fed-apart}
-use Rattle.replaying.proofs.Ends.{fed-held, fed-line, feeds-append}
+use Rattle.replaying.proofs.Ends.{fed-held, fed-line}
 
 -- what was printed before
 abbrev pub after : List ℕ → Replay → Replay

@@ -6,14 +6,6 @@ use native.Mathlib.Omega.{arith}
 use lib.ListN.{length, length-replicate}
 use Rattle.replay.proofs.main.Statement.{statement}
 use Rattle.replay.proofs.main.Tie as tie
-use Rattle.replay.proofs.main.Reads as reads
-use Rattle.replay.proofs.main.Lts as lts
-use Rattle.io.proofs.count.Reads as count-reads
-use Rattle.libc.proofs.read.Reads as read-reads
-use Rattle.plic.proofs.start.Reads as start-reads
-use Rattle.plic.proofs.finish.Reads as finish-reads
-use Rattle.replay.proofs.step.Reads as step-reads
-use Rattle.replay.proofs.write_first.Reads as write-first-reads
 
 abbrev Inv-loop : tie.InvT-loop
 Inv-loop input₀ output₀ replay₀ turns₀ input output replay turns = (length input ≡ 16384) × (length output ≡ 327680)
@@ -21,75 +13,57 @@ Inv-loop input₀ output₀ replay₀ turns₀ input output replay turns = (leng
 abbrev μ-loop : tie.MeasureT-loop
 μ-loop input₀ output₀ replay₀ turns₀ input output replay turns = turns
 
--- src/main.rt:45:9
 start-requires : tie.Need-start-requires Inv-loop μ-loop
 start-requires c κs = tt
 
--- src/main.rt:47:5
 loop-holds : tie.Need-loop-holds Inv-loop μ-loop
 loop-holds c = (length-replicate {A = ℕ} 16384 0, length-replicate {A = ℕ} 327680 0)
 
--- src/main.rt:48:44
 slice-aggregate-read : tie.Need-slice-aggregate-read Inv-loop μ-loop
 slice-aggregate-read c = search needs
 
--- src/main.rt:48:13
 read-requires : tie.Need-read-requires Inv-loop μ-loop
 read-requires c κs = tt
 
--- src/main.rt:49:32
 slice-aggregate-count : tie.Need-slice-aggregate-count Inv-loop μ-loop
 slice-aggregate-count c = search needs
 
--- src/main.rt:49:13
 count-requires : tie.Need-count-requires Inv-loop μ-loop
 count-requires c κs = tt
 
--- src/main.rt:53:33
 array-share-prefix-input : tie.Need-array-share-prefix-input Inv-loop μ-loop
 array-share-prefix-input c = search needs
 
--- src/main.rt:53:33
 slice-aggregate-step : tie.Need-slice-aggregate-step Inv-loop μ-loop
 slice-aggregate-step c = search needs
 
--- src/main.rt:53:46
 slice-aggregate-step-2 : tie.Need-slice-aggregate-step-2 Inv-loop μ-loop
 slice-aggregate-step-2 c = search needs
 
--- src/main.rt:53:13
 step-requires : tie.Need-step-requires Inv-loop μ-loop
 step-requires c κs = tt
 
--- src/main.rt:55:13
 returns : tie.Need-returns Inv-loop μ-loop
 returns c = tt
 
--- src/main.rt:59:9
 sub-turns : tie.Need-sub-turns Inv-loop μ-loop
 sub-turns c = omega arith
 
--- src/main.rt:47:5
 loop-less : tie.Need-loop-less Inv-loop μ-loop
 loop-less c = omega arith
 
--- src/main.rt:47:5
 loop-again : tie.Need-loop-again Inv-loop μ-loop
 loop-again c = (c .before .before .before .before .before .before .before .before .before .before .before .read .kept .1 .0 ∙ c .before .before .before .before .before .before .before .before .before .before .before .before .before .before .loop .inv .0, c .before .before .before .before .step .kept .1 .1 .0 ∙ c .before .before .before .before .before .before .before .before .before .before .before .before .before .before .loop .inv .1)
 
--- src/main.rt:61:9
 finish-requires : tie.Need-finish-requires Inv-loop μ-loop
 finish-requires c κs = tt
 
--- src/main.rt:63:17
 slice-aggregate-write-first : tie.Need-slice-aggregate-write-first Inv-loop μ-loop
 slice-aggregate-write-first c = search needs
 
--- src/main.rt:63:5
 write-first-requires : tie.Need-write-first-requires Inv-loop μ-loop
 write-first-requires c κs = tt
 
--- src/main.rt:42:1
 returns-2 : tie.Need-returns-2 Inv-loop μ-loop
 returns-2 c = tt
 

@@ -4,23 +4,16 @@ use lib.Seq.{length-take-le}
 use borrow.Author.Needs.{needs}
 use Rattle.replay.proofs.write_first.Statement.{statement}
 use Rattle.replay.proofs.write_first.Tie as tie
-use Rattle.replay.proofs.write_first.Reads as reads
-use Rattle.replay.proofs.write_first.Lts as lts
-use Rattle.io.proofs.write_all.Reads as write-all-reads
 
--- src/main.rt:17:9
 returns : tie.Need-returns
 returns c = search needs
 
--- src/main.rt:19:34
 slice-aggregate-write-all : tie.Need-slice-aggregate-write-all
 slice-aggregate-write-all c = sym (length-take-le (c .before .before .before .args .n) (c .before .before .before .args .bytes .now) (c .before .if1 .left))
 
--- src/main.rt:19:5
 write-all-requires : tie.Need-write-all-requires
 write-all-requires c κs = search needs
 
--- src/main.rt:15:1
 returns-2 : tie.Need-returns-2
 returns-2 c = search needs
 

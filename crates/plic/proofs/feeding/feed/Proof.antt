@@ -15,10 +15,6 @@ use Rattle.plic.specs.Engine.{Feeds}
 use borrow.Author.Needs.{needs}
 use Rattle.plic.proofs.feeding.feed.Statement.{statement}
 use Rattle.plic.proofs.feeding.feed.Tie as tie
-use Rattle.plic.proofs.feeding.feed.Reads as reads
-use Rattle.plic.proofs.feeding.feed.Lts as lts
-use Rattle.plic.proofs.feeding.feed_part.Reads as feed-part-reads
-use Rattle.plic.proofs.feeding.is_fit.Reads as is-fit-reads
 
 -- how many bytes are taken
 taken-is : (c : tie.Joined2) →
@@ -43,32 +39,26 @@ taken-length c = sym (length-take-le (c .if2 .n) (c .before .before .before .bef
 taken-most : (c : tie.Joined2) → c .if2 .n ≤ length (c .before .before .before .before .before .args .output .now) / 20
 taken-most c = taken-is c .2
 
--- src/feeding.rt:181:9
 is-fit-requires : tie.Need-is-fit-requires
 is-fit-requires c κs = search needs
 
--- src/feeding.rt:182:9
 returns : tie.Need-returns
 unfolding fedOf takenNumber takenValues feeding
 returns c =
     sym (cond-not _ _ (sym (c .before .is-fit .ensures) ∙ not-true _ (c .if1 .taken)))
 
--- src/feeding.rt:191:34
 slice-aggregate-feed-part : tie.Need-slice-aggregate-feed-part
 slice-aggregate-feed-part c = taken-length (c .before)
 
--- src/feeding.rt:191:9
 feed-part-requires : tie.Need-feed-part-requires
 feed-part-requires c κs = (
   sym (c .before .before .before .before .is-fit .ensures) ∙ not-false _ (c .before .before .before .if1 .left),
   omega (arith, sym (taken-length (c .before .before)), taken-most (c .before .before), div-add-mod (length (c .before .before .before .before .before .before .before .args .output .now)) 20),
 )
 
--- src/feeding.rt:178:1
 same-length : tie.Need-same-length
 same-length c = search needs
 
--- src/feeding.rt:178:1
 returns-2 : tie.Need-returns-2
 unfolding fedOf takenNumber takenValues feeding accepted
 returns-2 c =

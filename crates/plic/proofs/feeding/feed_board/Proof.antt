@@ -16,87 +16,64 @@ use Rattle.plic.proofs.Parts.{feeds-begun, feeds-board, begun-line, one
 use borrow.Author.Needs.{needs}
 use Rattle.plic.proofs.feeding.feed_board.Statement.{statement}
 use Rattle.plic.proofs.feeding.feed_board.Tie as tie
-use Rattle.plic.proofs.feeding.feed_board.Reads as reads
-use Rattle.plic.proofs.feeding.feed_board.Lts as lts
-use Rattle.plic.proofs.feeding.feed_lines.Reads as feed-lines-reads
-use Rattle.plic.proofs.feeding.standing.Reads as standing-reads
-use Rattle.plic.proofs.held.ended.Reads as ended-reads
-use Rattle.plic.proofs.lines.lines_on.Reads as lines-on-reads
-use Rattle.replaying.proofs.line_end.Reads as line-end-reads
 
 no-bytes : (l : List ℕ) → length l ≡ 0 → l ≡ []
 no-bytes [] e = refl
 no-bytes (x ∷ xs) e = absurd (suc-ne-zero (length xs) e)
 
--- src/feeding.rt:69:9
 feed-lines-requires : tie.Need-feed-lines-requires
 feed-lines-requires c κs = (c .before .before .before .before .before .pre .0, omega (arith, c .before .before .before .before .before .pre .3, feeds-most (c .before .before .before .before .before .args .input .now)))
 
--- src/feeding.rt:69:9
 same-length : tie.Need-same-length
 same-length c = search needs
 
--- src/feeding.rt:69:9
 returns : tie.Need-returns
 returns c = subst (λ (l : List ℕ). Feeds (begunAt (on (c .before .before .before .before .before .before .before .before .args .state)) l) (c .before .before .before .before .before .before .before .before .args .input .now) (c .before .before .before .before .before .before .before .before .args .output .now) (c .before .before .feed-lines .last .1 .1 .0) 0 (c .before .before .feed-lines .result)) (sym (no-bytes (c .before .before .before .before .before .before .before .before .args .begun .now) (c .before .before .before .before .if1 .taken))) (c .before .before .feed-lines .ensures)
 
--- src/feeding.rt:71:9
 line-end-requires : tie.Need-line-end-requires
 line-end-requires c κs = search needs
 
--- src/feeding.rt:73:9
 standing-requires : tie.Need-standing-requires
 standing-requires c κs = search needs
 
--- src/feeding.rt:73:9
 returns-2 : tie.Need-returns-2
 unfolding kept
 returns-2 c = feeds-begun (on (c .before .before .before .before .before .before .before .args .state)) (c .before .before .before .before .before .before .before .args .begun .now) (c .before .before .before .before .before .before .before .args .input .now) (c .before .before .before .before .before .before .before .args .output .now) (c .standing .result) (sym (c .before .before .line-end .ensures ∙ zero-add _) ∙ c .before .if2 .taken) (c .standing .ensures)
 
--- src/feeding.rt:75:29
 slice-aggregate-ended : tie.Need-slice-aggregate-ended
 slice-aggregate-ended c = sym (length-take-le (c .before .before .line-end .result) (c .before .before .before .before .before .before .before .args .input .now) (omega (arith, c .before .before .line-end .ensures, line-most (c .before .before .before .before .before .before .before .args .input .now))))
 
--- src/feeding.rt:75:9
 ended-requires : tie.Need-ended-requires
 ended-requires c κs = search needs
 
--- src/feeding.rt:78:32
 array-share-prefix-bytes : tie.Need-array-share-prefix-bytes
 array-share-prefix-bytes c =
     let room : length (c .before .ended .result .bytes) ≡ 256 = search needs in
     omega (arith, room, c .before .ended .ensures .1)
 
--- src/feeding.rt:78:32
 slice-aggregate-lines-on : tie.Need-slice-aggregate-lines-on
 slice-aggregate-lines-on c =
     let room : length (c .before .before .ended .result .bytes) ≡ 256 = search needs in
     sym (length-take-le (c .before .before .ended .result .count) (c .before .before .ended .result .bytes) (omega (arith, room, c .before .before .ended .ensures .1)))
 
--- src/feeding.rt:78:9
 lines-on-requires : tie.Need-lines-on-requires
 lines-on-requires c κs = (
   c .before .before .before .before .before .before .before .before .before .before .before .pre .0,
   omega (arith, c .before .before .before .before .before .before .before .before .before .before .before .pre .3, c .before .before .before .before .before .before .line-end .ensures, line-most (c .before .before .before .before .before .before .before .before .before .before .before .args .input .now), c .before .before .before .before .before .if2 .left, ap lineFeeds (c .before .before .before .ended .ensures .0), one-feed _ (stand-in-line _ (begun-line (c .before .before .before .before .before .before .before .before .before .before .before .args .begun .now) (c .before .before .before .before .before .before .before .before .before .before .before .args .input .now) (c .before .before .before .before .before .before .line-end .result) (c .before .before .before .before .before .before .before .before .before .before .before .pre .2) (c .before .before .before .before .before .before .line-end .ensures)))),
 )
 
--- src/feeding.rt:80:16
 add-from : tie.Need-add-from
 add-from c = omega (arith, c .before .before .before .before .before .before .before .before .before .before .line-end .ensures, line-most (c .before .before .before .before .before .before .before .before .before .before .before .before .before .before .before .args .input .now), c .before .before .before .before .before .before .before .before .before .if2 .left, c .before .before .before .before .before .before .before .before .before .before .before .before .before .before .before .good .1 .1 .0)
 
--- src/feeding.rt:81:22
 sub-feed-lines : tie.Need-sub-feed-lines
 sub-feed-lines c = omega (arith, c .before .before .before .before .before .before .before .before .before .before .line-end .ensures, line-most (c .before .before .before .before .before .before .before .before .before .before .before .before .before .before .before .args .input .now), c .before .before .before .before .before .before .before .before .before .if2 .left)
 
--- src/feeding.rt:81:22
 part-feed-lines-start : tie.Need-part-feed-lines-start
 part-feed-lines-start c = omega (arith, c .before .before .before .before .before .before .before .before .before .before .line-end .ensures, line-most (c .before .before .before .before .before .before .before .before .before .before .before .before .before .before .before .args .input .now), c .before .before .before .before .before .before .before .before .before .if2 .left)
 
--- src/feeding.rt:81:22
 part-feed-lines-end : tie.Need-part-feed-lines-end
 part-feed-lines-end c = search needs
 
--- src/feeding.rt:81:5
 feed-lines-requires-2 : tie.Need-feed-lines-requires-2
 feed-lines-requires-2 c κs =
     let input = c .before .before .before .before .before .before .before .before .before .before .before .before .before .before .before .before .before .args .input .now in
@@ -120,11 +97,9 @@ feed-lines-requires-2 c κs =
       ),
     )
 
--- src/feeding.rt:64:1
 same-length-2 : tie.Need-same-length-2
 same-length-2 c = search needs
 
--- src/feeding.rt:64:1
 returns-3 : tie.Need-returns-3
 returns-3 c = feeds-board (c .before .before .before .before .before .before .before .before .before .before .before .before .before .before .before .before .before .before .before .before .args .state) (c .before .before .before .before .before .before .before .before .before .before .before .before .before .before .before .before .before .before .before .before .args .begun .now) (c .before .before .before .before .before .before .before .before .before .before .before .before .before .before .before .before .before .before .before .before .args .input .now) (c .before .before .before .before .before .before .before .before .before .before .before .before .before .before .before .before .before .before .before .before .args .output .now) (c .before .before .before .before .before .before .before .before .lines-on .last .1 .1 .0) (c .before .before .feed-lines2 .last .1 .1 .0) _ (c .before .before .before .before .before .before .before .before .before .before .before .before .before .before .before .line-end .result) (c .before .before .before .before .before .before .before .before .lines-on .result) (c .before .before .feed-lines2 .result) (c .before .before .before .before .before .before .before .before .before .before .before .before .before .before .before .before .before .before .before .before .pre .2) (c .before .before .before .before .before .before .before .before .before .before .before .before .before .before .before .line-end .ensures) (c .before .before .before .before .before .before .before .before .before .before .before .before .before .before .if2 .left) (c .before .before .before .before .before .before .before .before .before .before .before .before .ended .ensures .0) (c .before .before .before .before .before .before .before .before .lines-on .ensures) (c .before .before .feed-lines2 .ensures)
 

@@ -1,7 +1,7 @@
 -- `feeding::feed_first` meets its contract: no line ends; the first line makes a board; or it is refused.
 -- Assumes nothing.
-use mathlib.Core.Path.{_≡_, _∙_, sym, subst}
-use mathlib.Core.List.{List, _++_}
+use mathlib.Core.Path.{_∙_, sym, subst}
+use mathlib.Core.List.{_++_}
 use Prim.Native.Nat.{ℕ, _+_, _-_, _≤_}
 use native.Mathlib.Nat.{zero-add, min-le-left}
 use native.Mathlib.Omega.{arith}
@@ -19,31 +19,16 @@ use Rattle.plic.proofs.Parts.{feeds-begun, feeds-made, feeds-unmade, to
 use borrow.Author.Needs.{needs}
 use Rattle.plic.proofs.feeding.feed_first.Statement.{statement}
 use Rattle.plic.proofs.feeding.feed_first.Tie as tie
-use Rattle.plic.proofs.feeding.feed_first.Reads as reads
-use Rattle.plic.proofs.feeding.feed_first.Lts as lts
-use Rattle.plic.proofs.checks.number_of.Reads as number-of-reads
-use Rattle.plic.proofs.feeding.at_end.Reads as at-end-reads
-use Rattle.plic.proofs.feeding.feed_lines.Reads as feed-lines-reads
-use Rattle.plic.proofs.feeding.standing.Reads as standing-reads
-use Rattle.plic.proofs.first.first_line.Reads as first-line-reads
-use Rattle.plic.proofs.held.joined.Reads as joined-reads
-use Rattle.plic.proofs.making.zero.Reads as zero-reads
-use Rattle.replaying.proofs.line_end.Reads as line-end-reads
-use Rattle.replaying.proofs.put_said.Reads as put-said-reads
 
--- src/feeding.rt:105:9
 line-end-requires : tie.Need-line-end-requires
 line-end-requires c κs = search needs
 
--- src/feeding.rt:107:40
 zero-requires : tie.Need-zero-requires
 zero-requires c κs = search needs
 
--- src/feeding.rt:107:9
 standing-requires : tie.Need-standing-requires
 standing-requires c κs = search needs
 
--- src/feeding.rt:107:9
 returns : tie.Need-returns
 unfolding kept
 returns c =
@@ -52,53 +37,42 @@ returns c =
     feeds-begun before (a .begun .now) (a .input .now) (a .output .now) (c .standing .result) (sym (c .before .before .before .line-end .ensures ∙ zero-add _) ∙ c .before .before .if1 .taken)
     (c .standing .ensures ∙ (λ i. record { replay = record { place = Before; state = c .before .zero .ensures i; begun = padded l; held = length (take 256 l) }; written = 0 }))
 
--- src/feeding.rt:109:30
 slice-aggregate-joined : tie.Need-slice-aggregate-joined
 slice-aggregate-joined c = sym (length-take-le (c .before .before .line-end .result) (c .before .before .before .before .before .before .args .input .now) (omega (arith, c .before .before .line-end .ensures, line-most (c .before .before .before .before .before .before .args .input .now))))
 
--- src/feeding.rt:109:9
 joined-requires : tie.Need-joined-requires
 joined-requires c κs = search needs
 
--- src/feeding.rt:112:27
 array-share-prefix-bytes : tie.Need-array-share-prefix-bytes
 array-share-prefix-bytes c =
     let room = joined-room _ (c .before .joined .result) (c .before .joined .ensures) in
     omega (arith, room .0, room .1)
 
--- src/feeding.rt:112:27
 slice-aggregate-first-line : tie.Need-slice-aggregate-first-line
 slice-aggregate-first-line c =
     let room = joined-room _ (c .before .before .joined .result) (c .before .before .joined .ensures) in
     sym (length-take-le (c .before .before .joined .result .count) (c .before .before .joined .result .bytes) (omega (arith, room .0, room .1)))
 
--- src/feeding.rt:112:9
 first-line-requires : tie.Need-first-line-requires
 first-line-requires c κs =
     let room = joined-room _ (c .before .before .joined .result) (c .before .before .joined .ensures) in
     omega (arith, room .0, length-take (c .before .before .joined .result .count) (c .before .before .joined .result .bytes), min-le-left (c .before .before .joined .result .count) (length (c .before .before .joined .result .bytes)))
 
--- src/feeding.rt:116:24
 enum-told : tie.Need-enum-told
 enum-told c = search needs
 
--- src/feeding.rt:116:24
 add-from : tie.Need-add-from
 add-from c = omega (arith, c .before .before .before .before .before .before .before .before .line-end .ensures, line-most (c .before .before .before .before .before .before .before .before .before .before .before .before .args .input .now), c .before .before .before .before .before .before .before .if1 .left, c .before .before .before .before .before .before .before .before .before .before .before .before .good .1 .0)
 
--- src/feeding.rt:118:31
 sub-feed-lines : tie.Need-sub-feed-lines
 sub-feed-lines c = omega (arith, c .before .before .before .before .before .before .before .before .before .line-end .ensures, line-most (c .before .before .before .before .before .before .before .before .before .before .before .before .before .args .input .now), c .before .before .before .before .before .before .before .before .if1 .left)
 
--- src/feeding.rt:118:31
 part-feed-lines-start : tie.Need-part-feed-lines-start
 part-feed-lines-start c = omega (arith, c .before .before .before .before .before .before .before .before .before .line-end .ensures, line-most (c .before .before .before .before .before .before .before .before .before .before .before .before .before .args .input .now), c .before .before .before .before .before .before .before .before .if1 .left)
 
--- src/feeding.rt:118:31
 part-feed-lines-end : tie.Need-part-feed-lines-end
 part-feed-lines-end c = search needs
 
--- src/feeding.rt:118:13
 feed-lines-requires : tie.Need-feed-lines-requires
 feed-lines-requires c κs =
     let input = c .before .before .before .before .before .before .before .before .before .before .before .before .before .before .before .args .input .now in
@@ -108,38 +82,30 @@ feed-lines-requires c κs =
       omega (arith, c .before .before .before .before .before .before .before .before .before .before .before .before .before .before .before .pre .1, feeds-most rest, length-take (length input - (end + 1)) (drop (end + 1) input), min-le-left (length input - (end + 1)) (length (drop (end + 1) input))),
     )
 
--- src/feeding.rt:120:25
 enum-known-answer : tie.Need-enum-known-answer
 enum-known-answer c = search needs
 
--- src/feeding.rt:121:27
 number-of-requires : tie.Need-number-of-requires
 number-of-requires c κs = search needs
 
--- src/feeding.rt:120:40
 put-said-requires : tie.Need-put-said-requires
 put-said-requires c κs = search needs
 
--- src/feeding.rt:120:33
 at-end-requires : tie.Need-at-end-requires
 at-end-requires c κs = search needs
 
--- src/feeding.rt:101:1
 same-length : tie.Need-same-length
 same-length c = search needs
 
--- src/feeding.rt:101:1
 returns-2 : tie.Need-returns-2
 returns-2 c =
     feeds-made (c .before .before .before .before .before .before .before .before .before .before .before .before .before .before .before .before .before .before .args .begun .now) (c .before .before .before .before .before .before .before .before .before .before .before .before .before .before .before .before .before .before .args .input .now) (c .before .before .before .before .before .before .before .before .before .before .before .before .before .before .before .before .before .before .args .output .now) (c .before .before .before .before .before .before .before .before .before .before .before .before .before .before .line-end .result) (c .before .before .before .before .before .before .before .before .first-line .result) (c .before .before .feed-lines .result) (c .before .before .before .before .before .before .before .before .before .before .before .before .before .before .line-end .ensures) (c .before .before .before .before .before .before .before .before .before .before .before .before .before .if1 .left) (c .before .before .feed-lines .last .1 .1 .0)
     (told-made (c .before .before .before .before .before .before .before .before .before .before .before .before .before .before .before .before .before .before .args .begun .now ++ take (c .before .before .before .before .before .before .before .before .before .before .before .before .before .before .line-end .result) (c .before .before .before .before .before .before .before .before .before .before .before .before .before .before .before .before .before .before .args .input .now)) _ (c .before .before .before .before .before .before .before .before .first-line .result) (joined-cut _ (c .before .before .before .before .before .before .before .before .before .before .before .joined .result) (c .before .before .before .before .before .before .before .before .before .before .before .joined .ensures)) (c .before .before .before .before .before .before .before .before .first-line .ensures) (c .before .before .before .before .before .before .enum-told .given .0 .0) (c .before .before .before .before .before .before .enum-told .given .1))
     (c .before .before .feed-lines .ensures)
 
--- src/feeding.rt:101:1
 same-length-2 : tie.Need-same-length-2
 same-length-2 c = search needs
 
--- src/feeding.rt:101:1
 returns-3 : tie.Need-returns-3
 unfolding saidBytes
 returns-3 c =

@@ -4,40 +4,28 @@ use Rattle.plic.proofs.Parts.{feeds-rest}
 use borrow.Author.Needs.{needs}
 use Rattle.plic.proofs.feeding.feed_lines.Statement.{statement}
 use Rattle.plic.proofs.feeding.feed_lines.Tie as tie
-use Rattle.plic.proofs.feeding.feed_lines.Reads as reads
-use Rattle.plic.proofs.feeding.feed_lines.Lts as lts
-use Rattle.plic.proofs.feeding.standing.Reads as standing-reads
-use Rattle.plic.proofs.lines.lines_on.Reads as lines-on-reads
 
--- src/feeding.rt:57:9
 lines-on-requires : tie.Need-lines-on-requires
 lines-on-requires c κs = search needs
 
--- src/feeding.rt:60:31
 slice-aggregate-standing : tie.Need-slice-aggregate-standing
 slice-aggregate-standing c = search needs
 
--- src/feeding.rt:60:44
 sub-standing : tie.Need-sub-standing
 sub-standing c = search needs
 
--- src/feeding.rt:60:44
 part-standing-start : tie.Need-part-standing-start
 part-standing-start c = search needs
 
--- src/feeding.rt:60:44
 part-standing-end : tie.Need-part-standing-end
 part-standing-end c = search needs
 
--- src/feeding.rt:60:5
 standing-requires : tie.Need-standing-requires
 standing-requires c κs = search needs
 
--- src/feeding.rt:53:1
 same-length : tie.Need-same-length
 same-length c = search needs
 
--- src/feeding.rt:53:1
 returns : tie.Need-returns
 returns c = feeds-rest (c .before .before .before .before .before .before .before .before .before .before .args .state) (c .before .before .before .before .before .before .before .before .before .before .args .input .now) (c .before .before .before .before .before .before .before .before .before .before .args .output .now) (c .before .before .before .before .before .before .lines-on .last .1 .1 .0) (c .before .before .before .before .before .before .before .before .before .before .args .from) (c .before .before .before .before .before .before .lines-on .result) (c .standing .result) (c .before .before .before .before .before .before .lines-on .ensures) (c .standing .ensures)
 

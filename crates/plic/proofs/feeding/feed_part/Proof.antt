@@ -17,13 +17,7 @@ use Rattle.plic.proofs.Parts.{fit-facts, feeds-ended}
 use borrow.Author.Needs.{needs}
 use Rattle.plic.proofs.feeding.feed_part.Statement.{statement}
 use Rattle.plic.proofs.feeding.feed_part.Tie as tie
-use Rattle.plic.proofs.feeding.feed_part.Reads as reads
-use Rattle.plic.proofs.feeding.feed_part.Lts as lts
-use Rattle.plic.proofs.feeding.at_end.Reads as at-end-reads
-use Rattle.plic.proofs.feeding.feed_board.Reads as feed-board-reads
-use Rattle.plic.proofs.feeding.feed_first.Reads as feed-first-reads
 
--- src/feeding.rt:137:37
 enum-told : tie.Need-enum-told
 enum-told c = search needs
 
@@ -39,31 +33,24 @@ stood : (r : Replaying) (input out out′ : List ℕ) (part : Part) {p : Place} 
 unfolding shown
 stood r input out out′ part e f = subst (λ (q : Place). Feeds (begunAt (standOf q (r .state)) (take (r .held) (r .begun))) input out out′ 0 part) (sym e) f
 
--- src/feeding.rt:137:37
 array-share-prefix-begun : tie.Need-array-share-prefix-begun
 array-share-prefix-begun c = omega (arith, begun-room (c .before .before .before .before .before), fit-facts (c .before .before .before .before .before .args .replay) (c .before .before .before .before .before .pre .0) .0)
 
--- src/feeding.rt:137:37
 slice-aggregate-feed-first : tie.Need-slice-aggregate-feed-first
 slice-aggregate-feed-first c = sym (held-length (c .before .before .before .before .before .before))
 
--- src/feeding.rt:137:26
 feed-first-requires : tie.Need-feed-first-requires
 feed-first-requires c κs = (omega (arith, held-length (c .before .before .before .before .before .before .before), fit-facts (c .before .before .before .before .before .before .before .args .replay) (c .before .before .before .before .before .before .before .pre .0) .0), c .before .before .before .before .before .before .before .pre .1)
 
--- src/feeding.rt:138:47
 enum-told-2 : tie.Need-enum-told-2
 enum-told-2 c = search needs
 
--- src/feeding.rt:138:47
 array-share-prefix-begun-2 : tie.Need-array-share-prefix-begun-2
 array-share-prefix-begun-2 c = omega (arith, begun-room (c .before .before .before .before .before), fit-facts (c .before .before .before .before .before .args .replay) (c .before .before .before .before .before .pre .0) .0)
 
--- src/feeding.rt:138:47
 slice-aggregate-feed-board : tie.Need-slice-aggregate-feed-board
 slice-aggregate-feed-board c = sym (held-length (c .before .before .before .before .before .before))
 
--- src/feeding.rt:138:22
 feed-board-requires : tie.Need-feed-board-requires
 unfolding boardSound
 feed-board-requires c κs =
@@ -74,33 +61,26 @@ feed-board-requires c κs =
       c .before .before .before .before .before .before .before .pre .1,
     )
 
--- src/feeding.rt:139:25
 enum-told-3 : tie.Need-enum-told-3
 enum-told-3 c = search needs
 
--- src/feeding.rt:139:25
 at-end-requires : tie.Need-at-end-requires
 at-end-requires c κs = search needs
 
--- src/feeding.rt:129:1
 same-length : tie.Need-same-length
 same-length c = search needs
 
--- src/feeding.rt:129:1
 returns : tie.Need-returns
 unfolding standOf
 returns c = stood (c .before .before .before .before .before .before .before .before .before .before .args .replay) (c .before .before .before .before .before .before .before .before .before .before .args .input .now) (c .before .before .before .before .before .before .before .before .before .before .args .output .now) (c .before .before .feed-first .last .1 .1 .0) (c .before .before .feed-first .result) (c .before .before .before .before .before .enum-told .given .1) (c .before .before .feed-first .ensures)
 
--- src/feeding.rt:129:1
 same-length-2 : tie.Need-same-length-2
 same-length-2 c = search needs
 
--- src/feeding.rt:129:1
 returns-2 : tie.Need-returns-2
 unfolding standOf
 returns-2 c = stood (c .before .before .before .before .before .before .before .before .before .before .args .replay) (c .before .before .before .before .before .before .before .before .before .before .args .input .now) (c .before .before .before .before .before .before .before .before .before .before .args .output .now) (c .before .before .feed-board .last .1 .1 .1 .0) (c .before .before .feed-board .result) (c .before .before .before .before .before .enum-told2 .given .1) (c .before .before .feed-board .ensures)
 
--- src/feeding.rt:129:1
 returns-3 : tie.Need-returns-3
 unfolding shown standOf
 returns-3 c = feeds-ended (shown (c .before .before .before .before .before .before .args .replay)) (c .before .before .before .before .before .before .args .input .now) (c .before .before .before .before .before .before .args .output .now) 0 (c .at-end .result) (ap (λ (p : Place). standOf p (c .before .before .before .before .before .before .args .replay .state)) (c .before .enum-told3 .given .1)) refl (c .at-end .ensures)

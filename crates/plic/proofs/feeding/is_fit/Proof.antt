@@ -1,7 +1,7 @@
 -- `feeding::is_fit` meets its contract: the clauses one after the other.
 -- Assumes nothing.
-use mathlib.Core.Path.{_≡_, _∙_, refl, sym, ap}
-use Prim.Native.Nat.{ℕ, _≤_}
+use mathlib.Core.Path.{_≡_, _∙_, sym, ap}
+use Prim.Native.Nat.{_≤_}
 use native.Mathlib.Nat.{zero-add}
 use native.Mathlib.Omega.{arith}
 use lib.Dec.{leb}
@@ -16,10 +16,6 @@ use Rattle.plic.proofs.Parts.{fit-board}
 use borrow.Author.Needs.{needs}
 use Rattle.plic.proofs.feeding.is_fit.Statement.{statement}
 use Rattle.plic.proofs.feeding.is_fit.Tie as tie
-use Rattle.plic.proofs.feeding.is_fit.Reads as reads
-use Rattle.plic.proofs.feeding.is_fit.Lts as lts
-use Rattle.plic.proofs.sound.is_sound.Reads as is-sound-reads
-use Rattle.replaying.proofs.line_end.Reads as line-end-reads
 
 begun-room : (c : tie.Start) → length (c .args .replay .begun) ≡ 256
 begun-room c = search needs
@@ -31,52 +27,41 @@ returns : tie.Need-returns
 unfolding fit allOf boardSound
 returns c = sym (and-fails-left _ (lt-leb _ _ (c .if1 .taken)))
 
--- src/feeding.rt:152:28
 array-share-prefix-begun : tie.Need-array-share-prefix-begun
 array-share-prefix-begun c = omega (arith, begun-room (c .before .before))
 
--- src/feeding.rt:152:28
 slice-aggregate-line-end : tie.Need-slice-aggregate-line-end
 slice-aggregate-line-end c = sym (held-length (c .before .before .before) (c .before .if1 .left))
 
--- src/feeding.rt:152:8
 line-end-requires : tie.Need-line-end-requires
 line-end-requires c κs = search needs
 
--- src/feeding.rt:153:9
 returns-2 : tie.Need-returns-2
 unfolding fit allOf boardSound
 returns-2 c =
     let r = c .before .before .before .before .before .args .replay in
     sym (and-fails-right (leb (r .held) 256) (and-fails-left _ (ne-eqb _ _ (λ e. c .if2 .taken (c .before .line-end .ensures ∙ zero-add _ ∙ e)))))
 
--- src/feeding.rt:157:26
 enum-told : tie.Need-enum-told
 enum-told c = search needs
 
--- src/feeding.rt:158:22
 enum-told-2 : tie.Need-enum-told-2
 enum-told-2 c = search needs
 
--- src/feeding.rt:158:22
 is-sound-requires : tie.Need-is-sound-requires
 is-sound-requires c κs = search needs
 
--- src/feeding.rt:159:25
 enum-told-3 : tie.Need-enum-told-3
 enum-told-3 c = search needs
 
--- src/feeding.rt:144:1
 returns-3 : tie.Need-returns-3
 unfolding boardSound
 returns-3 c = sym (fit-board (c .before .before .before .before .before .before .before .args .replay) (c .before .before .before .before .before .if1 .left) (sym (c .before .before .before .line-end .ensures ∙ zero-add _) ∙ c .before .before .if2 .left) ∙ ap (λ (p : Place). boardSound p (c .before .before .before .before .before .before .before .args .replay .state)) (c .enum-told .given .1))
 
--- src/feeding.rt:144:1
 returns-4 : tie.Need-returns-4
 unfolding boardSound
 returns-4 c = c .is-sound .ensures ∙ sym (fit-board (c .before .before .before .before .before .before .before .before .args .replay) (c .before .before .before .before .before .before .if1 .left) (sym (c .before .before .before .before .line-end .ensures ∙ zero-add _) ∙ c .before .before .before .if2 .left) ∙ ap (λ (p : Place). boardSound p (c .before .before .before .before .before .before .before .before .args .replay .state)) (c .before .enum-told2 .given .1))
 
--- src/feeding.rt:144:1
 returns-5 : tie.Need-returns-5
 unfolding boardSound
 returns-5 c = sym (fit-board (c .before .before .before .before .before .before .before .args .replay) (c .before .before .before .before .before .if1 .left) (sym (c .before .before .before .line-end .ensures ∙ zero-add _) ∙ c .before .before .if2 .left) ∙ ap (λ (p : Place). boardSound p (c .before .before .before .before .before .before .before .args .replay .state)) (c .enum-told3 .given .1))

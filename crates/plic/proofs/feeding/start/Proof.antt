@@ -6,15 +6,10 @@ use Rattle.replaying.specs.Pieces.{padded, kept}
 use borrow.Author.Needs.{needs}
 use Rattle.plic.proofs.feeding.start.Statement.{statement}
 use Rattle.plic.proofs.feeding.start.Tie as tie
-use Rattle.plic.proofs.feeding.start.Reads as reads
-use Rattle.plic.proofs.feeding.start.Lts as lts
-use Rattle.plic.proofs.making.zero.Reads as zero-reads
 
--- src/feeding.rt:169:16
 zero-requires : tie.Need-zero-requires
 zero-requires c κs = search needs
 
--- src/feeding.rt:164:1
 returns : tie.Need-returns
 unfolding kept padded
 returns c = λ i. record { place = Before; state = c .zero .ensures i; begun = replicate 256 0; held = 0 }

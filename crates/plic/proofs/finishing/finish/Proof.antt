@@ -1,6 +1,6 @@
 -- `finishing::finish` meets its contract: a replay that cannot go on, or what is printed at the end.
 -- Assumes nothing.
-use mathlib.Core.Path.{_≡_, _∙_, sym, ap}
+use mathlib.Core.Path.{_∙_, sym, ap}
 use Prim.Native.Nat.{ℕ}
 use native.Mathlib.Nat.{zero-add}
 use native.Mathlib.Omega.{arith}
@@ -12,31 +12,22 @@ use Rattle.replaying.specs.Pieces.{ending}
 use borrow.Author.Needs.{needs}
 use Rattle.plic.proofs.finishing.finish.Statement.{statement}
 use Rattle.plic.proofs.finishing.finish.Tie as tie
-use Rattle.plic.proofs.finishing.finish.Reads as reads
-use Rattle.plic.proofs.finishing.finish.Lts as lts
-use Rattle.plic.proofs.feeding.is_fit.Reads as is-fit-reads
-use Rattle.plic.proofs.finishing.put_ending.Reads as put-ending-reads
 
--- src/finishing.rt:64:9
 is-fit-requires : tie.Need-is-fit-requires
 is-fit-requires c κs = search needs
 
--- src/finishing.rt:65:9
 returns : tie.Need-returns
 unfolding ending
 returns c =
     let none = sym (cond-not _ _ (sym (c .before .is-fit .ensures) ∙ not-true _ (c .if1 .taken))) in
     λ i. record { bytes = sets (replicate 160 0) 0 (none i); length = length (none i) }
 
--- src/finishing.rt:70:37
 slice-aggregate-put-ending : tie.Need-slice-aggregate-put-ending
 slice-aggregate-put-ending c = search needs
 
--- src/finishing.rt:70:9
 put-ending-requires : tie.Need-put-ending-requires
 put-ending-requires c κs = (sym (c .before .before .is-fit .ensures) ∙ not-false _ (c .before .if1 .left), omega (arith, length-replicate {A = ℕ} 160 0))
 
--- src/finishing.rt:60:1
 returns-2 : tie.Need-returns-2
 unfolding ending
 returns-2 c =

@@ -13,38 +13,25 @@ use Rattle.plic.specs.Leaves.{openAgeIn}
 use borrow.Author.Needs.{needs}
 use Rattle.plic.proofs.finishing.put_board.Statement.{statement}
 use Rattle.plic.proofs.finishing.put_board.Tie as tie
-use Rattle.plic.proofs.finishing.put_board.Reads as reads
-use Rattle.plic.proofs.finishing.put_board.Lts as lts
-use Rattle.plic.proofs.reports.open_total.Reads as open-total-reads
-use Rattle.plic.proofs.sound.source_total.Reads as source-total-reads
-use Rattle.plic.proofs.words.wide.Reads as wide-reads
-use Rattle.replaying.proofs.put_totals.Reads as put-totals-reads
 
--- src/finishing.rt:27:9
 source-total-requires : tie.Need-source-total-requires
 source-total-requires c κs = search needs
 
--- src/finishing.rt:28:9
 source-total-requires-2 : tie.Need-source-total-requires-2
 source-total-requires-2 c κs = search needs
 
--- src/finishing.rt:29:9
 open-total-requires : tie.Need-open-total-requires
 open-total-requires c κs = search needs
 
--- src/finishing.rt:30:27
 wide-requires : tie.Need-wide-requires
 wide-requires c κs = search needs
 
--- src/finishing.rt:30:5
 put-totals-requires : tie.Need-put-totals-requires
 put-totals-requires c κs = search needs
 
--- src/finishing.rt:23:1
 same-length : tie.Need-same-length
 same-length c = search needs
 
--- src/finishing.rt:23:1
 returns : tie.Need-returns
 unfolding valuesOf boardClaims boardWaited boardOpen sourceClaims sourceWaited openAge isPending request openAgeIn
 returns c =

@@ -16,40 +16,29 @@ use Rattle.replaying.proofs.Print.{written-put}
 use borrow.Author.Needs.{needs}
 use Rattle.plic.proofs.finishing.put_closing.Statement.{statement}
 use Rattle.plic.proofs.finishing.put_closing.Tie as tie
-use Rattle.plic.proofs.finishing.put_closing.Reads as reads
-use Rattle.plic.proofs.finishing.put_closing.Lts as lts
-use Rattle.plic.proofs.finishing.put_board.Reads as put-board-reads
-use Rattle.replaying.proofs.put_said.Reads as put-said-reads
 
 stood : (r : Replaying) (out out′ : List ℕ) (at end : ℕ) {p : Place} → r .place ≡ p → Written out out′ at end (closing (standOf p (r .state))) →
     Written out out′ at end (closing (standOf (r .place) (r .state)))
 stood r out out′ at end e w = subst (λ (q : Place). Written out out′ at end (closing (standOf q (r .state)))) (sym e) w
 
--- src/finishing.rt:40:46
 enum-told : tie.Need-enum-told
 enum-told c = search needs
 
--- src/finishing.rt:40:26
 put-said-requires : tie.Need-put-said-requires
 put-said-requires c κs = search needs
 
--- src/finishing.rt:41:46
 enum-told-2 : tie.Need-enum-told-2
 enum-told-2 c = search needs
 
--- src/finishing.rt:41:22
 put-board-requires : tie.Need-put-board-requires
 put-board-requires c κs = search needs
 
--- src/finishing.rt:42:25
 enum-told-3 : tie.Need-enum-told-3
 enum-told-3 c = search needs
 
--- src/finishing.rt:34:1
 same-length : tie.Need-same-length
 same-length c = search needs
 
--- src/finishing.rt:34:1
 returns : tie.Need-returns
 unfolding saidBytes standOf closing
 returns c =
@@ -59,16 +48,13 @@ returns c =
     stood (a .replay) (a .output .now) out′ (a .at) (c .before .before .put-said .result) (c .before .before .before .before .enum-told .given .1)
     (written-put 20 (saidBytes (Refused 11)) (a .output .now) out′ (a .at) (c .before .before .put-said .result) room (c .before .before .put-said .ensures .0))
 
--- src/finishing.rt:34:1
 same-length-2 : tie.Need-same-length-2
 same-length-2 c = search needs
 
--- src/finishing.rt:34:1
 returns-2 : tie.Need-returns-2
 unfolding standOf closing
 returns-2 c = stood (c .before .before .before .before .before .before .before .args .replay) (c .before .before .before .before .before .before .before .args .output .now) (c .before .before .put-board .last .1 .0) (c .before .before .before .before .before .before .before .args .at) (c .before .before .put-board .result) (c .before .before .before .before .enum-told2 .given .1) (c .before .before .put-board .ensures)
 
--- src/finishing.rt:34:1
 returns-3 : tie.Need-returns-3
 unfolding standOf closing
 returns-3 c = stood (c .before .before .before .args .replay) (c .before .before .before .args .output .now) (c .before .before .before .args .output .now) (c .before .before .before .args .at) (c .before .before .before .args .at) (c .enum-told3 .given .1) (record { bytes = refl; place = sym (add-zero (c .before .before .before .args .at)) })

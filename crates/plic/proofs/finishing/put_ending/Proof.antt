@@ -15,45 +15,33 @@ use Rattle.plic.proofs.Endings.{kept-stands, ending-none, ending-line, 
 use borrow.Author.Needs.{needs}
 use Rattle.plic.proofs.finishing.put_ending.Statement.{statement}
 use Rattle.plic.proofs.finishing.put_ending.Tie as tie
-use Rattle.plic.proofs.finishing.put_ending.Reads as reads
-use Rattle.plic.proofs.finishing.put_ending.Lts as lts
-use Rattle.plic.proofs.feeding.feed_part.Reads as feed-part-reads
-use Rattle.plic.proofs.finishing.put_closing.Reads as put-closing-reads
 
 held-length : (c : tie.Start) → length (take (c .args .replay .held) (c .args .replay .begun)) ≡ c .args .replay .held
 held-length c =
     let room : length (c .args .replay .begun) ≡ 256 = search needs in
     length-take-le (c .args .replay .held) (c .args .replay .begun) (omega (arith, room, fit-facts (c .args .replay) (c .pre .0) .0))
 
--- src/finishing.rt:52:9
 put-closing-requires : tie.Need-put-closing-requires
 put-closing-requires c κs = search needs
 
--- src/finishing.rt:52:9
 same-length : tie.Need-same-length
 same-length c = search needs
 
--- src/finishing.rt:52:9
 returns : tie.Need-returns
 returns c = subst (Written (c .before .before .before .before .before .before .before .args .output .now) (c .before .before .put-closing .last .1 .0) 0 (c .before .before .put-closing .result)) (sym (ending-none (c .before .before .before .before .before .before .before .args .replay) (c .before .before .before .before .if1 .taken))) (c .before .before .put-closing .ensures)
 
--- src/finishing.rt:54:34
 slice-aggregate-feed-part : tie.Need-slice-aggregate-feed-part
 slice-aggregate-feed-part c = search needs
 
--- src/finishing.rt:54:9
 feed-part-requires : tie.Need-feed-part-requires
 feed-part-requires c κs = search needs
 
--- src/finishing.rt:55:5
 put-closing-requires-2 : tie.Need-put-closing-requires-2
 put-closing-requires-2 c κs = omega (arith, c .before .before .before .before .before .before .before .before .before .pre .1, c .before .before .before .feed-part .ensures .prints .place, one-short (c .before .before .before .before .before .before .before .before .before .args .replay), written-length (c .before .before .before .feed-part .ensures .prints))
 
--- src/finishing.rt:47:1
 same-length-2 : tie.Need-same-length-2
 same-length-2 c = search needs
 
--- src/finishing.rt:47:1
 returns-2 : tie.Need-returns-2
 returns-2 c =
     let r = c .before .before .before .before .before .before .before .before .before .before .before .before .args .replay in

@@ -10,90 +10,65 @@ use Rattle.plic.proofs.Parts.{first-as}
 use borrow.Author.Needs.{needs}
 use Rattle.plic.proofs.first.first_line.Statement.{statement}
 use Rattle.plic.proofs.first.first_line.Tie as tie
-use Rattle.plic.proofs.first.first_line.Reads as reads
-use Rattle.plic.proofs.first.first_line.Lts as lts
-use Rattle.commands.proofs.first.Reads as first-reads
-use Rattle.plic.proofs.first.kind_bytes.Reads as kind-bytes-reads
-use Rattle.plic.proofs.first.no_board.Reads as no-board-reads
-use Rattle.plic.proofs.making.make.Reads as make-reads
 
--- src/first.rt:60:9
 first-requires : tie.Need-first-requires
 first-requires c κs = search needs
 
--- src/first.rt:62:23
 enum-known-command : tie.Need-enum-known-command
 enum-known-command c = search needs
 
--- src/first.rt:63:17
 kind-bytes-requires : tie.Need-kind-bytes-requires
 kind-bytes-requires c κs = search needs
 
--- src/first.rt:66:27
 array-share-prefix-bytes : tie.Need-array-share-prefix-bytes
 array-share-prefix-bytes c =
     let room : length (c .before .kind-bytes .result .bytes) ≡ 256 = search needs in
     omega (arith, room, c .before .kind-bytes .ensures .1)
 
--- src/first.rt:66:27
 slice-aggregate-make : tie.Need-slice-aggregate-make
 slice-aggregate-make c =
     let room : length (c .before .before .kind-bytes .result .bytes) ≡ 256 = search needs in
     sym (length-take-le (c .before .before .kind-bytes .result .count) (c .before .before .kind-bytes .result .bytes) (omega (arith, room, c .before .before .kind-bytes .ensures .1)))
 
--- src/first.rt:66:13
 make-requires : tie.Need-make-requires
 make-requires c κs = search needs
 
--- src/first.rt:68:32
 enum-told : tie.Need-enum-told
 enum-told c = search needs
 
--- src/first.rt:68:32
 no-board-requires : tie.Need-no-board-requires
 no-board-requires c κs = search needs
 
--- src/first.rt:69:32
 enum-told-2 : tie.Need-enum-told-2
 enum-told-2 c = search needs
 
--- src/first.rt:69:32
 no-board-requires-2 : tie.Need-no-board-requires-2
 no-board-requires-2 c κs = search needs
 
--- src/first.rt:70:29
 enum-told-3 : tie.Need-enum-told-3
 enum-told-3 c = search needs
 
--- src/first.rt:70:29
 no-board-requires-3 : tie.Need-no-board-requires-3
 no-board-requires-3 c κs = search needs
 
--- src/first.rt:71:33
 enum-told-4 : tie.Need-enum-told-4
 enum-told-4 c = search needs
 
--- src/first.rt:71:33
 no-board-requires-4 : tie.Need-no-board-requires-4
 no-board-requires-4 c κs = search needs
 
--- src/first.rt:72:31
 enum-told-5 : tie.Need-enum-told-5
 enum-told-5 c = search needs
 
--- src/first.rt:72:31
 no-board-requires-5 : tie.Need-no-board-requires-5
 no-board-requires-5 c κs = search needs
 
--- src/first.rt:73:32
 enum-told-6 : tie.Need-enum-told-6
 enum-told-6 c = search needs
 
--- src/first.rt:73:32
 no-board-requires-6 : tie.Need-no-board-requires-6
 no-board-requires-6 c κs = search needs
 
--- src/first.rt:56:1
 returns : tie.Need-returns
 unfolding firstLine
 returns c =
@@ -101,32 +76,26 @@ returns c =
     ap started (c .make .ensures ∙ ap (make (command .0 .0) (command .0 .1 .0) (command .0 .1 .1 .0)) (c .before .before .before .kind-bytes .ensures .0))
     ∙ first-as (c .before .before .before .before .before .before .before .before .before .args .line .now) (c .before .before .before .before .before .before .before .first .result) _ (c .before .before .before .before .before .before .before .first .ensures) (command .1)
 
--- src/first.rt:56:1
 returns-2 : tie.Need-returns-2
 unfolding firstLine
 returns-2 c = c .no-board .ensures ∙ first-as (c .before .before .before .before .before .args .line .now) (c .before .before .before .first .result) _ (c .before .before .before .first .ensures) (c .before .enum-told .given .1)
 
--- src/first.rt:56:1
 returns-3 : tie.Need-returns-3
 unfolding firstLine
 returns-3 c = c .no-board2 .ensures ∙ first-as (c .before .before .before .before .before .args .line .now) (c .before .before .before .first .result) _ (c .before .before .before .first .ensures) (c .before .enum-told2 .given .1)
 
--- src/first.rt:56:1
 returns-4 : tie.Need-returns-4
 unfolding firstLine
 returns-4 c = c .no-board3 .ensures ∙ first-as (c .before .before .before .before .before .args .line .now) (c .before .before .before .first .result) _ (c .before .before .before .first .ensures) (c .before .enum-told3 .given .1)
 
--- src/first.rt:56:1
 returns-5 : tie.Need-returns-5
 unfolding firstLine
 returns-5 c = c .no-board4 .ensures ∙ first-as (c .before .before .before .before .before .args .line .now) (c .before .before .before .first .result) _ (c .before .before .before .first .ensures) (c .before .enum-told4 .given .1)
 
--- src/first.rt:56:1
 returns-6 : tie.Need-returns-6
 unfolding firstLine
 returns-6 c = c .no-board5 .ensures ∙ first-as (c .before .before .before .before .before .args .line .now) (c .before .before .before .first .result) _ (c .before .before .before .first .ensures) (c .before .enum-told5 .given .1)
 
--- src/first.rt:56:1
 returns-7 : tie.Need-returns-7
 unfolding firstLine
 returns-7 c = c .no-board6 .ensures ∙ first-as (c .before .before .before .before .before .args .line .now) (c .before .before .before .first .result) _ (c .before .before .before .first .ensures) (c .before .enum-told6 .given .1)

@@ -6,20 +6,15 @@ use Rattle.laws.proofs.Truth.{cond-so, cond-not}
 use Rattle.replaying.specs.Replay.{kindByte}
 use Rattle.plic.proofs.first.kind_byte.Statement.{statement}
 use Rattle.plic.proofs.first.kind_byte.Tie as tie
-use Rattle.plic.proofs.first.kind_byte.Reads as reads
-use Rattle.plic.proofs.first.kind_byte.Lts as lts
 
--- src/first.rt:21:9
 returns : tie.Need-returns
 unfolding kindByte
 returns c = sym (cond-so _ _ (eq-eqb (c .before .args .letter) 108 (c .if1 .taken)))
 
--- src/first.rt:24:9
 returns-2 : tie.Need-returns-2
 unfolding kindByte
 returns-2 c = sym (cond-not _ _ (ne-eqb (c .before .before .args .letter) 108 (c .before .if1 .left)) ∙ cond-so _ _ (eq-eqb (c .before .before .args .letter) 101 (c .if2 .taken)))
 
--- src/first.rt:17:1
 returns-3 : tie.Need-returns-3
 unfolding kindByte
 returns-3 c = sym (cond-not _ _ (ne-eqb (c .before .before .args .letter) 108 (c .before .if1 .left)) ∙ cond-not _ _ (ne-eqb (c .before .before .args .letter) 101 (c .if2 .left)))

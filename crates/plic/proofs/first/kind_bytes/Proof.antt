@@ -2,7 +2,6 @@
 -- Assumes nothing.
 use borrow.Author.Needs.{needs}
 use mathlib.Core.Path.{_≡_, _∙_, refl, sym, ap}
-use mathlib.Core.List.{List}
 use Prim.Native.Nat.{ℕ, _+_, _-_, _≤_, _<_}
 use native.Mathlib.Omega.{arith}
 use lib.ListN.{length, take, drop, getD, length-drop, length-set, length-replicate}
@@ -11,9 +10,6 @@ use Rattle.replaying.proofs.KindLetters.{kinds-more}
 use Rattle.replaying.specs.Replay.{kindByte, kindBytes}
 use Rattle.plic.proofs.first.kind_bytes.Statement.{statement}
 use Rattle.plic.proofs.first.kind_bytes.Tie as tie
-use Rattle.plic.proofs.first.kind_bytes.Reads as reads
-use Rattle.plic.proofs.first.kind_bytes.Lts as lts
-use Rattle.plic.proofs.first.kind_byte.Reads as kind-byte-reads
 
 abbrev Inv-loop : tie.InvT-loop
 Inv-loop line from bytes₀ i₀ count₀ bytes i count = (i ≡ from + count) × (take count bytes ≡ kindBytes (take count (drop from line))) × (count ≤ 256) × (length bytes ≡ 256)
@@ -21,36 +17,28 @@ Inv-loop line from bytes₀ i₀ count₀ bytes i count = (i ≡ from + count) �
 abbrev μ-loop : tie.MeasureT-loop
 μ-loop line from bytes₀ i₀ count₀ bytes i count = length line - i
 
--- src/first.rt:37:5
 loop-holds : tie.Need-loop-holds Inv-loop μ-loop
 unfolding kindBytes
 loop-holds c = (omega arith, refl, omega arith, length-replicate {A = ℕ} 256 0)
 
--- src/first.rt:38:34
 shared-slice-read-kind-byte : tie.Need-shared-slice-read-kind-byte Inv-loop μ-loop
 shared-slice-read-kind-byte c = omega arith
 
--- src/first.rt:38:24
 kind-byte-requires : tie.Need-kind-byte-requires Inv-loop μ-loop
 kind-byte-requires c κs = search needs
 
--- src/first.rt:38:9
 array-write-bytes : tie.Need-array-write-bytes Inv-loop μ-loop
 array-write-bytes c = omega arith
 
--- src/first.rt:39:9
 add-count : tie.Need-add-count Inv-loop μ-loop
 add-count c = omega arith
 
--- src/first.rt:40:9
 add-i : tie.Need-add-i Inv-loop μ-loop
 add-i c = omega arith
 
--- src/first.rt:37:5
 loop-less : tie.Need-loop-less Inv-loop μ-loop
 loop-less c = omega arith
 
--- src/first.rt:37:5
 loop-again : tie.Need-loop-again Inv-loop μ-loop
 loop-again c =
     let l = c .before .before .before .loop in
@@ -59,7 +47,6 @@ loop-again c =
     let byte = c .kind-byte .ensures ∙ ap kindByte (ap (λ (k : ℕ). getD (a .line .now) k 0) (l .inv .0) ∙ sym (getD-drop (a .from) (a .line .now) (l .count) 0)) in
     (omega arith, kinds-more (drop (a .from) (a .line .now)) (l .bytes) (l .count) (c .kind-byte .result) inside (omega (arith, l .inv .3)) (l .inv .1) byte, omega arith, length-set (l .bytes) (l .count) (c .kind-byte .result) ∙ l .inv .3)
 
--- src/first.rt:30:1
 returns : tie.Need-returns Inv-loop μ-loop
 returns c =
     let l = c .before .loop in

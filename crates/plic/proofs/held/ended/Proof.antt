@@ -1,20 +1,17 @@
 -- `held::ended` meets its contract: there is room for the line feed, or the line is too long.
 -- Assumes nothing.
 use mathlib.Core.Path.{_≡_, _∙_, sym, ap}
-use mathlib.Core.List.{List, [], _∷_, _++_}
+use mathlib.Core.List.{[], _∷_, _++_}
 use mathlib.Core.Logic.{⊎-elim}
-use Prim.Native.Nat.{ℕ, _+_, _<_}
+use Prim.Native.Nat.{_+_, _<_}
 use native.Mathlib.Omega.{arith}
-use lib.ListN.{length, take, set}
+use lib.ListN.{take, set}
 use Rattle.plic.specs.declared.held.Held.{Held}
 use Rattle.plic.specs.Engine.{standIn}
 use Rattle.plic.proofs.Parts.{ended-full, ended-part}
 use borrow.Author.Needs.{needs}
 use Rattle.plic.proofs.held.ended.Statement.{statement}
 use Rattle.plic.proofs.held.ended.Tie as tie
-use Rattle.plic.proofs.held.ended.Reads as reads
-use Rattle.plic.proofs.held.ended.Lts as lts
-use Rattle.plic.proofs.held.joined.Reads as joined-reads
 
 -- in both cases of the room the line stands with its line feed
 came : (c : tie.Joined1) →
@@ -32,15 +29,12 @@ came c =
 joined-requires : tie.Need-joined-requires
 joined-requires c κs = search needs
 
--- src/held.rt:59:5
 array-write-bytes : tie.Need-array-write-bytes
 array-write-bytes c = came c .1
 
--- src/held.rt:62:16
 add-t10 : tie.Need-add-t10
 add-t10 c = omega (arith, came (c .before) .1)
 
--- src/held.rt:49:1
 returns : tie.Need-returns
 returns c = (came (c .before) .0, omega (arith, came (c .before) .1))
 

@@ -9,8 +9,6 @@ use lib.Seq.{sets, take-all, length-take-le}
 use Rattle.replaying.proofs.Print.{sets-more}
 use Rattle.plic.proofs.held.join.Statement.{statement}
 use Rattle.plic.proofs.held.join.Tie as tie
-use Rattle.plic.proofs.held.join.Reads as reads
-use Rattle.plic.proofs.held.join.Lts as lts
 
 all-taken : (n i : ℕ) (l : List ℕ) → i ≡ length l → i ≤ n → take n l ≡ take i l
 all-taken n i l e h = take-all n l (omega (arith, e, h)) ∙ sym (take-all i l (omega (arith, e)))
@@ -21,19 +19,15 @@ Inv-loop bytes₀ held more room i₀ bytes i = (i ≤ room) × (i ≤ length mo
 abbrev μ-loop : tie.MeasureT-loop
 μ-loop bytes₀ held more room i₀ bytes i = room - i
 
--- src/held.rt:21:16
 sub-room : tie.Need-sub-room Inv-loop μ-loop
 sub-room c = omega arith
 
--- src/held.rt:23:5
 loop-holds : tie.Need-loop-holds Inv-loop μ-loop
 loop-holds c = (omega arith, omega arith, refl)
 
--- src/held.rt:25:20
 add-result : tie.Need-add-result Inv-loop μ-loop
 add-result c = omega arith
 
--- src/held.rt:25:13
 returns : tie.Need-returns Inv-loop μ-loop
 returns c =
     let l = c .before .before .loop in
@@ -41,27 +35,21 @@ returns c =
     let all : take (256 - a .held) (a .more .now) ≡ take (l .i) (a .more .now) = all-taken (256 - a .held) (l .i) (a .more .now) (c .if1 .taken) (l .inv .0) in
     (l .inv .2 ∙ ap (sets (a .bytes .now) (a .held)) (sym all), ap (λ (k : ℕ). a .held + k) (sym (ap length all ∙ length-take-le (l .i) (a .more .now) (l .inv .1))))
 
--- src/held.rt:27:27
 shared-slice-read-bytes : tie.Need-shared-slice-read-bytes Inv-loop μ-loop
 shared-slice-read-bytes c = omega arith
 
--- src/held.rt:27:15
 add-bytes : tie.Need-add-bytes Inv-loop μ-loop
 add-bytes c = omega arith
 
--- src/held.rt:27:9
 element-write-bytes : tie.Need-element-write-bytes Inv-loop μ-loop
 element-write-bytes c = omega arith
 
--- src/held.rt:28:9
 add-i : tie.Need-add-i Inv-loop μ-loop
 add-i c = omega arith
 
--- src/held.rt:23:5
 loop-less : tie.Need-loop-less Inv-loop μ-loop
 loop-less c = omega arith
 
--- src/held.rt:23:5
 loop-again : tie.Need-loop-again Inv-loop μ-loop
 loop-again c =
     let l = c .before .before .before .loop in
@@ -69,11 +57,9 @@ loop-again c =
     let inside : l .i < length (a .more .now) = omega arith in
     (omega arith, omega arith, sets-more (a .bytes .now) (l .bytes) (a .held) (a .more .now) (l .i) inside (l .inv .2))
 
--- src/held.rt:30:5
 add-result-2 : tie.Need-add-result-2 Inv-loop μ-loop
 add-result-2 c = omega arith
 
--- src/held.rt:17:1
 returns-2 : tie.Need-returns-2 Inv-loop μ-loop
 returns-2 c =
     let l = c .before .loop in

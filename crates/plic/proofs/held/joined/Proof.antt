@@ -7,19 +7,13 @@ use Rattle.plic.proofs.Parts.{joined-is}
 use borrow.Author.Needs.{needs}
 use Rattle.plic.proofs.held.joined.Statement.{statement}
 use Rattle.plic.proofs.held.joined.Tie as tie
-use Rattle.plic.proofs.held.joined.Reads as reads
-use Rattle.plic.proofs.held.joined.Lts as lts
-use Rattle.plic.proofs.held.join.Reads as join-reads
 
--- src/held.rt:39:9
 join-requires : tie.Need-join-requires
 join-requires c κs = search needs
 
--- src/held.rt:40:9
 join-requires-2 : tie.Need-join-requires-2
 join-requires-2 c κs = omega (arith, c .before .join .ensures .1, length-take 256 (c .before .before .before .before .before .args .first .now), min-le-left 256 (length (c .before .before .before .before .before .args .first .now)))
 
--- src/held.rt:34:1
 returns : tie.Need-returns
 returns c = joined-is (c .before .before .before .before .before .before .args .first .now) (c .before .before .before .before .before .before .args .more .now) (c .before .before .join .last .0) (c .join2 .last .0) (c .before .before .join .result) (c .join2 .result) (c .before .before .before .before .before .before .pre) (c .before .before .join .ensures .0) (c .before .before .join .ensures .1) (c .join2 .ensures .0) (c .join2 .ensures .1)
 

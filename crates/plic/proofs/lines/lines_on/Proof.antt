@@ -2,7 +2,7 @@
 -- Assumes nothing.
 use borrow.Author.Needs.{needs}
 use mathlib.Core.Path.{refl}
-use Prim.Native.Nat.{ℕ, _+_, _-_}
+use Prim.Native.Nat.{_-_}
 use native.Mathlib.Omega.{arith}
 use lib.ListN.{length}
 use Rattle.replaying.proofs.Print.{written-length}
@@ -10,12 +10,6 @@ use Rattle.plic.specs.Arrays.{requestsOf, countsOf, bucketsOf, stateOf}
 use Rattle.plic.proofs.Going.{Going, going-start, going-over, going-line}
 use Rattle.plic.proofs.lines.lines_on.Statement.{statement}
 use Rattle.plic.proofs.lines.lines_on.Tie as tie
-use Rattle.plic.proofs.lines.lines_on.Reads as reads
-use Rattle.plic.proofs.lines.lines_on.Lts as lts
-use Rattle.commands.proofs.parse.Reads as parse-reads
-use Rattle.plic.proofs.obey.obey.Reads as obey-reads
-use Rattle.replaying.proofs.line_end.Reads as line-end-reads
-use Rattle.replaying.proofs.put_said.Reads as put-said-reads
 
 abbrev Inv-loop : tie.InvT-loop
 Inv-loop input output₀ from n m b kind clock₀ steps₀ priority₀ enable₀ threshold₀ stage₀ line₀ extra₀ start₀ claims₀ waited₀ bucket-claims₀ bucket-ticks₀ at₀ written₀ end₀ output clock steps priority enable threshold stage line extra start claims waited bucket-claims bucket-ticks at written end =
@@ -28,61 +22,47 @@ abbrev μ-loop : tie.MeasureT-loop
 μ-loop input output₀ from n m b kind clock₀ steps₀ priority₀ enable₀ threshold₀ stage₀ line₀ extra₀ start₀ claims₀ waited₀ bucket-claims₀ bucket-ticks₀ at₀ written₀ end₀ output clock steps priority enable threshold stage line extra start claims waited bucket-claims bucket-ticks at written end =
     length input - at
 
--- src/lines.rt:49:9
 line-end-requires : tie.Need-line-end-requires Inv-loop μ-loop
 line-end-requires c κs = search needs
 
--- src/lines.rt:50:5
 loop-holds : tie.Need-loop-holds Inv-loop μ-loop
 loop-holds c = going-start _ (c .before .before .before .before .before .before .before .before .before .before .before .before .before .before .before .args .input .now) (c .before .before .before .before .before .before .before .before .before .before .before .before .before .before .before .args .output .now) (c .before .before .before .before .before .before .before .before .before .before .before .before .before .before .before .args .from) _ (c .before .before .before .before .before .before .before .before .before .before .before .before .before .before .before .pre .0) (c .before .before .before .before .before .before .before .before .before .before .before .before .before .before .before .pre .1) (c .line-end .ensures)
 
--- src/lines.rt:52:29
 sub-parse : tie.Need-sub-parse Inv-loop μ-loop
 sub-parse c = omega (arith, c .before .loop .inv .ends)
 
--- src/lines.rt:52:29
 part-parse-start : tie.Need-part-parse-start Inv-loop μ-loop
 part-parse-start c = omega (arith, c .before .loop .inv .ends)
 
--- src/lines.rt:52:29
 part-parse-end : tie.Need-part-parse-end Inv-loop μ-loop
 part-parse-end c = omega (arith, c .loop-test .taken)
 
--- src/lines.rt:52:13
 parse-requires : tie.Need-parse-requires Inv-loop μ-loop
 parse-requires c κs = search needs
 
--- src/lines.rt:51:13
 obey-requires : tie.Need-obey-requires Inv-loop μ-loop
 obey-requires c κs = c .before .before .before .before .before .before .before .before .before .before .before .before .before .before .before .loop .inv .sound
 
--- src/lines.rt:74:9
 put-said-requires : tie.Need-put-said-requires Inv-loop μ-loop
 put-said-requires c κs = search needs
 
--- src/lines.rt:75:14
 add-at : tie.Need-add-at Inv-loop μ-loop
 add-at c = omega (arith, c .before .before .before .before .before .before .before .before .before .before .before .before .before .before .before .before .before .before .before .loop-test .taken, c .before .before .before .before .before .before .before .before .before .before .before .before .before .before .before .before .before .before .before .before .before .before .before .before .before .before .before .before .before .before .before .before .before .before .before .before .good .1 .0)
 
--- src/lines.rt:76:9
 line-end-requires-2 : tie.Need-line-end-requires-2 Inv-loop μ-loop
 line-end-requires-2 c κs = search needs
 
--- src/lines.rt:50:5
 loop-less : tie.Need-loop-less Inv-loop μ-loop
 loop-less c = omega (arith, c .before .before .before .before .before .before .before .before .before .before .before .before .before .before .before .before .before .before .before .before .loop-test .taken, c .before .before .before .before .before .before .before .before .before .before .before .before .before .before .before .before .before .before .before .before .before .loop .inv .ends)
 
--- src/lines.rt:50:5
 loop-again : tie.Need-loop-again Inv-loop μ-loop
 loop-again c =
     going-line (c .before .before .before .before .before .before .before .before .before .before .before .before .before .before .before .before .before .before .before .before .before .loop .inv) (c .before .before .before .before .before .before .before .before .before .before .before .before .before .before .before .before .before .before .before .before .loop-test .taken) _ refl (c .before .before .before .before .before .before .before .before .before .before .before .before .before .before .before .before .before .before .parse .result) (c .before .before .before .before .before .before .before .before .before .before .before .before .before .before .before .before .before .before .parse .ensures) _ (c .before .before .before .before .before .obey .result .said) (c .before .before .before .before .before .obey .ensures)
     _ (c .before .before .before .put-said .result) (c .before .before .before .put-said .ensures .0) (c .before .before .before .put-said .ensures .1) _ (c .line-end2 .result) refl (c .line-end2 .ensures)
 
--- src/lines.rt:26:1
 same-length : tie.Need-same-length Inv-loop μ-loop
 same-length c = written-length (c .before .loop .inv .prints)
 
--- src/lines.rt:26:1
 returns : tie.Need-returns Inv-loop μ-loop
 returns c = going-over (c .before .loop .inv) _ refl (c .loop-test .left)
 

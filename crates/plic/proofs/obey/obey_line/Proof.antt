@@ -1,7 +1,7 @@
 -- `obey::obey_line` meets its contract: the first refusal that the check finds, or the step.
 -- Assumes nothing.
-use mathlib.Core.Path.{_≡_, _∙_, refl, sym, ap}
-use Prim.Native.Nat.{ℕ, _+_}
+use mathlib.Core.Path.{_∙_, refl, sym, ap}
+use Prim.Native.Nat.{_+_}
 use native.Mathlib.Omega.{arith}
 use Rattle.model.specs.declared.State.{State}
 use Rattle.model.specs.Board.{withSteps}
@@ -16,49 +16,34 @@ use Rattle.plic.proofs.Obeyed.{line-number, did-refused, did-accepted}
 use borrow.Author.Needs.{needs}
 use Rattle.plic.proofs.obey.obey_line.Statement.{statement}
 use Rattle.plic.proofs.obey.obey_line.Tie as tie
-use Rattle.plic.proofs.obey.obey_line.Reads as reads
-use Rattle.plic.proofs.obey.obey_line.Lts as lts
-use Rattle.plic.proofs.board.line_on.Reads as line-on-reads
-use Rattle.plic.proofs.checks.line_check.Reads as line-check-reads
-use Rattle.plic.proofs.checks.number_of.Reads as number-of-reads
-use Rattle.plic.proofs.obey.refused.Reads as refused-reads
 
--- src/obey.rt:63:9
 line-check-requires : tie.Need-line-check-requires
 line-check-requires c κs = search needs
 
--- src/obey.rt:65:24
 enum-known-check : tie.Need-enum-known-check
 enum-known-check c = search needs
 
--- src/obey.rt:65:54
 number-of-requires : tie.Need-number-of-requires
 number-of-requires c κs = search needs
 
--- src/obey.rt:65:32
 refused-requires : tie.Need-refused-requires
 refused-requires c κs = search needs
 
--- src/obey.rt:77:17
 enum-told : tie.Need-enum-told
 enum-told c = search needs
 
--- src/obey.rt:67:13
 line-on-requires : tie.Need-line-on-requires
 line-on-requires c κs = line-ready _ (c .before .before .before .before .before .before .before .args .i) (c .before .before .before .before .before .before .before .args .level) (line-number (c .before .before .before .before .before .before .before .pre) (c .before .before .before .before .before .before .before .args .i) (c .before .before .before .before .before .before .before .args .level) ∙ sym (c .before .before .before .before .before .before .line-check .ensures) ∙ ap checkNumber (c .before .before .before .before .enum-told .given .1))
 
--- src/obey.rt:90:24
 add-t29 : tie.Need-add-t29
 add-t29 c = omega (arith, line-ready _ (c .before .before .before .before .before .before .before .before .args .i) (c .before .before .before .before .before .before .before .before .args .level) (line-number (c .before .before .before .before .before .before .before .before .pre) (c .before .before .before .before .before .before .before .before .args .i) (c .before .before .before .before .before .before .before .before .args .level) ∙ sym (c .before .before .before .before .before .before .before .line-check .ensures) ∙ ap checkNumber (c .before .before .before .before .before .enum-told .given .1)) .0 .room)
 
--- src/obey.rt:39:1
 returns : tie.Need-returns
 unfolding commanded
 returns c =
     did-refused (c .before .before .before .before .before .before .pre) (Line (c .before .before .before .before .before .before .args .i) (c .before .before .before .before .before .before .args .level)) (line (c .before .before .before .before .before .before .args .i) (c .before .before .before .before .before .before .args .level)) silent refl (c .before .before .before .check .given .0 .0) (c .before .number-of .result) (c .refused .result)
     (line-number (c .before .before .before .before .before .before .pre) (c .before .before .before .before .before .before .args .i) (c .before .before .before .before .before .before .args .level) ∙ sym (c .before .before .before .before .before .line-check .ensures) ∙ ap checkNumber (c .before .before .before .check .given .1)) (c .before .number-of .ensures) (c .refused .ensures)
 
--- src/obey.rt:39:1
 returns-2 : tie.Need-returns-2
 unfolding commanded saidBytes valuesOf after effect isStep withSteps silent
 returns-2 c =

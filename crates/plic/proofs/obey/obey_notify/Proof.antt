@@ -1,6 +1,6 @@
 -- `obey::obey_notify` meets its contract: the first refusal that the check finds, or the arbiter's answer.
 -- Assumes nothing.
-use mathlib.Core.Path.{_≡_, _∙_, sym, ap}
+use mathlib.Core.Path.{_∙_, sym, ap}
 use Prim.Native.Nat.{ℕ}
 use native.Mathlib.Omega.{arith}
 use lib.Dec.{eqb}
@@ -8,49 +8,34 @@ use Rattle.laws.proofs.Truth.{cond-so, cond-not}
 use Rattle.model.proofs.Registers.{context-range}
 use Rattle.replaying.specs.declared.Said.{Said}
 use Rattle.replaying.specs.declared.Said.the-variants.{Value, Refused}
-use Rattle.plic.specs.declared.obey.Did.{Did}
 use Rattle.plic.specs.Checks.{checkNumber}
 use Rattle.plic.specs.Engine.{notifySaid}
 use Rattle.plic.proofs.Obeyed.{not-zero, context-within}
 use borrow.Author.Needs.{needs}
 use Rattle.plic.proofs.obey.obey_notify.Statement.{statement}
 use Rattle.plic.proofs.obey.obey_notify.Tie as tie
-use Rattle.plic.proofs.obey.obey_notify.Reads as reads
-use Rattle.plic.proofs.obey.obey_notify.Lts as lts
-use Rattle.plic.proofs.arbiter.is_notified.Reads as is-notified-reads
-use Rattle.plic.proofs.checks.context_check.Reads as context-check-reads
-use Rattle.plic.proofs.checks.number_of.Reads as number-of-reads
-use Rattle.plic.proofs.obey.refused.Reads as refused-reads
 
--- src/obey.rt:243:9
 context-check-requires : tie.Need-context-check-requires
 context-check-requires c κs = search needs
 
--- src/obey.rt:245:24
 enum-known-check : tie.Need-enum-known-check
 enum-known-check c = search needs
 
--- src/obey.rt:245:54
 number-of-requires : tie.Need-number-of-requires
 number-of-requires c κs = search needs
 
--- src/obey.rt:245:32
 refused-requires : tie.Need-refused-requires
 refused-requires c κs = search needs
 
--- src/obey.rt:247:21
 enum-told : tie.Need-enum-told
 enum-told c = search needs
 
--- src/obey.rt:248:25
 element-copy-out-limit : tie.Need-element-copy-out-limit
 element-copy-out-limit c = omega (arith, context-range (c .before .before .before .args .m) (c .before .before .before .args .context) (context-within (c .before .before .before .args .m) (c .before .before .before .args .context) (sym (c .before .before .context-check .ensures) ∙ ap checkNumber (c .enum-told .given .1))), c .before .before .before .pre .1)
 
--- src/obey.rt:249:33
 is-notified-requires : tie.Need-is-notified-requires
 is-notified-requires c κs = (c .before .before .before .before .pre .0, omega (arith, context-range (c .before .before .before .before .args .m) (c .before .before .before .before .args .context) (context-within (c .before .before .before .before .args .m) (c .before .before .before .before .args .context) (sym (c .before .before .before .context-check .ensures) ∙ ap checkNumber (c .before .enum-told .given .1))), c .before .before .before .before .pre .1))
 
--- src/obey.rt:229:1
 returns : tie.Need-returns
 unfolding notifySaid
 returns c =
@@ -59,7 +44,6 @@ returns c =
     ∙ ap (λ (k : Said). record { clock = c .before .before .before .before .before .before .args .clock; steps = c .before .before .before .before .before .before .args .steps; said = k })
     (ap Refused (c .before .number-of .ensures ∙ sym found) ∙ sym (cond-not _ _ (ap (λ (k : ℕ). eqb k 0) found ∙ not-zero (c .before .before .before .check .given .0 .0))))
 
--- src/obey.rt:229:1
 returns-2 : tie.Need-returns-2
 unfolding notifySaid
 returns-2 c =
@@ -67,7 +51,6 @@ returns-2 c =
     (ap (Value 78) (sym (cond-so 1 0 (sym (c .before .is-notified .ensures) ∙ c .if1 .taken)))
     ∙ sym (cond-so _ _ (ap (λ (k : ℕ). eqb k 0) (sym (c .before .before .before .before .before .context-check .ensures) ∙ ap checkNumber (c .before .before .before .enum-told .given .1)))))
 
--- src/obey.rt:229:1
 returns-3 : tie.Need-returns-3
 unfolding notifySaid
 returns-3 c =

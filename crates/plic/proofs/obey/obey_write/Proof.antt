@@ -1,7 +1,7 @@
 -- `obey::obey_write` meets its contract: the first refusal that the check finds, or the step.
 -- Assumes nothing.
-use mathlib.Core.Path.{_≡_, _∙_, refl, sym, ap}
-use Prim.Native.Nat.{ℕ, _+_}
+use mathlib.Core.Path.{_∙_, refl, sym, ap}
+use Prim.Native.Nat.{_+_}
 use native.Mathlib.Omega.{arith}
 use Rattle.model.specs.declared.State.{State}
 use Rattle.model.specs.Board.{withSteps}
@@ -16,49 +16,34 @@ use Rattle.plic.proofs.Obeyed.{write-number, did-refused, did-accepted}
 use borrow.Author.Needs.{needs}
 use Rattle.plic.proofs.obey.obey_write.Statement.{statement}
 use Rattle.plic.proofs.obey.obey_write.Tie as tie
-use Rattle.plic.proofs.obey.obey_write.Reads as reads
-use Rattle.plic.proofs.obey.obey_write.Lts as lts
-use Rattle.plic.proofs.board.write_on.Reads as write-on-reads
-use Rattle.plic.proofs.checks.access_check.Reads as access-check-reads
-use Rattle.plic.proofs.checks.number_of.Reads as number-of-reads
-use Rattle.plic.proofs.obey.refused.Reads as refused-reads
 
--- src/obey.rt:194:9
 access-check-requires : tie.Need-access-check-requires
 access-check-requires c κs = search needs
 
--- src/obey.rt:196:24
 enum-known-check : tie.Need-enum-known-check
 enum-known-check c = search needs
 
--- src/obey.rt:196:54
 number-of-requires : tie.Need-number-of-requires
 number-of-requires c κs = search needs
 
--- src/obey.rt:196:32
 refused-requires : tie.Need-refused-requires
 refused-requires c κs = search needs
 
--- src/obey.rt:205:17
 enum-told : tie.Need-enum-told
 enum-told c = search needs
 
--- src/obey.rt:198:13
 write-on-requires : tie.Need-write-on-requires
 write-on-requires c κs = write-ready _ (c .before .before .before .before .before .before .before .before .before .args .offset) (c .before .before .before .before .before .before .before .before .before .args .v) (write-number (c .before .before .before .before .before .before .before .before .before .pre) (c .before .before .before .before .before .before .before .before .before .args .offset) (c .before .before .before .before .before .before .before .before .before .args .v) ∙ sym (c .before .before .before .before .before .before .before .before .access-check .ensures) ∙ ap checkNumber (c .before .before .before .before .before .before .enum-told .given .1))
 
--- src/obey.rt:221:24
 add-t31 : tie.Need-add-t31
 add-t31 c = omega (arith, write-ready _ (c .before .before .before .before .before .before .before .before .before .before .args .offset) (c .before .before .before .before .before .before .before .before .before .before .args .v) (write-number (c .before .before .before .before .before .before .before .before .before .before .pre) (c .before .before .before .before .before .before .before .before .before .before .args .offset) (c .before .before .before .before .before .before .before .before .before .before .args .v) ∙ sym (c .before .before .before .before .before .before .before .before .before .access-check .ensures) ∙ ap checkNumber (c .before .before .before .before .before .before .before .enum-told .given .1)) .0 .room)
 
--- src/obey.rt:170:1
 returns : tie.Need-returns
 unfolding commanded
 returns c =
     did-refused (c .before .before .before .before .before .before .pre) (Write (c .before .before .before .before .before .before .args .offset) (c .before .before .before .before .before .before .args .v)) (write (c .before .before .before .before .before .before .args .offset) (c .before .before .before .before .before .before .args .v)) silent refl (c .before .before .before .check .given .0 .0) (c .before .number-of .result) (c .refused .result)
     (write-number (c .before .before .before .before .before .before .pre) (c .before .before .before .before .before .before .args .offset) (c .before .before .before .before .before .before .args .v) ∙ sym (c .before .before .before .before .before .access-check .ensures) ∙ ap checkNumber (c .before .before .before .check .given .1)) (c .before .number-of .ensures) (c .refused .ensures)
 
--- src/obey.rt:170:1
 returns-2 : tie.Need-returns-2
 unfolding commanded saidBytes valuesOf after effect isStep withSteps silent
 returns-2 c =

@@ -1,15 +1,14 @@
-use mathlib.Core.Path.{_≡_, _∙_, refl, sym, ap, subst}
-use mathlib.Core.List.{List, [], _∷_, _++_}
-use Prim.Native.Nat.{ℕ, suc, _+_, _-_, _≤_, _<_}
-use native.Mathlib.Numerals.{add-one}
+-- `text::put_text` meets its contract. The loop's invariant: the first `i` bytes are stored.
+-- Assumes nothing.
+use mathlib.Core.Path.{_≡_, _∙_, refl, ap}
+use mathlib.Core.List.{List}
+use Prim.Native.Nat.{ℕ, _+_, _-_, _≤_}
 use native.Mathlib.Omega.{arith}
-use lib.ListN.{length, take, set, getD}
-use lib.Seq.{sets, length-sets, take-suc, take-length, length-take-le}
+use lib.ListN.{length, take}
+use lib.Seq.{sets, length-sets, take-length}
 use Rattle.replaying.proofs.Print.{sets-more}
 use Rattle.replaying.proofs.text.put_text.Statement.{statement}
 use Rattle.replaying.proofs.text.put_text.Tie as tie
-use Rattle.replaying.proofs.text.put_text.Reads as reads
-use Rattle.replaying.proofs.text.put_text.Lts as lts
 
 kept-length : (out l : List ℕ) (at : ℕ) (xs : List ℕ) → out ≡ sets l at xs → length out ≡ length l
 kept-length out l at xs e = ap length e ∙ length-sets l at xs
@@ -20,46 +19,36 @@ Inv-loop text output₀ at i₀ output i = (i ≤ length text) × (output ≡ se
 abbrev μ-loop : tie.MeasureT-loop
 μ-loop text output₀ at i₀ output i = length text - i
 
--- src/text.rt:24:5
 loop-holds : tie.Need-loop-holds Inv-loop μ-loop
 loop-holds c = (omega arith, refl)
 
--- src/text.rt:25:26
 shared-slice-read-output : tie.Need-shared-slice-read-output Inv-loop μ-loop
 shared-slice-read-output c = omega arith
 
--- src/text.rt:25:16
 add-output : tie.Need-add-output Inv-loop μ-loop
 add-output c = omega arith
 
--- src/text.rt:25:9
 slice-write-output : tie.Need-slice-write-output Inv-loop μ-loop
 slice-write-output c = omega (arith, kept-length (c .before .before .loop .output) (c .before .before .before .args .output .now) (c .before .before .before .args .at) (take (c .before .before .loop .i) (c .before .before .before .args .text .now)) (c .before .before .loop .inv .1))
 
--- src/text.rt:26:9
 add-i : tie.Need-add-i Inv-loop μ-loop
 add-i c = omega arith
 
--- src/text.rt:24:5
 loop-less : tie.Need-loop-less Inv-loop μ-loop
 loop-less c = omega arith
 
--- src/text.rt:24:5
 loop-again : tie.Need-loop-again Inv-loop μ-loop
 loop-again c =
     let l = c .before .before .loop in
     let text = c .before .before .before .args .text .now in
     (omega arith, sets-more (c .before .before .before .args .output .now) (l .output) (c .before .before .before .args .at) text (l .i) (c .before .loop-test .taken) (l .inv .1))
 
--- src/text.rt:28:5
 add-result : tie.Need-add-result Inv-loop μ-loop
 add-result c = omega arith
 
--- src/text.rt:19:1
 same-length : tie.Need-same-length Inv-loop μ-loop
 same-length c = kept-length (c .before .loop .output) (c .before .before .args .output .now) (c .before .before .args .at) (take (c .before .loop .i) (c .before .before .args .text .now)) (c .before .loop .inv .1)
 
--- src/text.rt:19:1
 returns : tie.Need-returns Inv-loop μ-loop
 returns c =
     let text = c .before .before .args .text .now in

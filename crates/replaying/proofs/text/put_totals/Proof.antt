@@ -1,17 +1,16 @@
+-- `text::put_totals` meets its contract: no room, or the four totals one after the other.
+-- Assumes nothing.
 use mathlib.Core.Path.{_≡_, _∙_, subst}
 use mathlib.Core.List.{List, [], _∷_, _++_, append-assoc}
 use Prim.Native.Nat.{ℕ, _+_, _≤_, _<_}
 use native.Mathlib.Omega.{arith}
-use lib.ListN.{length, getD, set, length-set, length-append}
+use lib.ListN.{length, set, length-set, length-append}
 use Rattle.replaying.specs.Replay.{digits, totalsLine}
 use Rattle.replaying.specs.Text.{Written}
 use Rattle.replaying.proofs.Print.{digits-wide, written-length, written-then, written-byte, put-written, put-nothing}
 use borrow.Author.Needs.{needs}
 use Rattle.replaying.proofs.text.put_totals.Statement.{statement}
 use Rattle.replaying.proofs.text.put_totals.Tie as tie
-use Rattle.replaying.proofs.text.put_totals.Reads as reads
-use Rattle.replaying.proofs.text.put_totals.Lts as lts
-use Rattle.replaying.proofs.text.put_total.Reads as put-total-reads
 
 ends : {l out : List ℕ} {at end : ℕ} (word : List ℕ) (v : ℕ) → v < 18446744073709551616 → Written l out at end (word ++ digits v) →
     end ≤ at + (length word + 20)
@@ -26,63 +25,48 @@ parts p q r s clock claims waited ages =
     ∙ append-assoc ((p ++ digits clock) ++ (q ++ digits claims)) (r ++ digits waited) ((s ++ digits ages) ++ (10 ∷ []))
     ∙ append-assoc (p ++ digits clock) (q ++ digits claims) ((r ++ digits waited) ++ ((s ++ digits ages) ++ (10 ∷ [])))
 
--- src/text.rt:107:9
 returns : tie.Need-returns
 returns c = put-nothing (c .before .before .args .output .now) (c .before .before .args .at) 128 (totalsLine (c .before .before .args .clock ∷ c .before .before .args .claims ∷ c .before .before .args .waited ∷ c .before .before .args .ages ∷ [])) (omega arith)
 
--- src/text.rt:109:8
 sub-if2 : tie.Need-sub-if2
 sub-if2 c = search needs
 
--- src/text.rt:110:9
 returns-2 : tie.Need-returns-2
 returns-2 c = put-nothing (c .before .before .before .args .output .now) (c .before .before .before .args .at) 128 (totalsLine (c .before .before .before .args .clock ∷ c .before .before .before .args .claims ∷ c .before .before .before .args .waited ∷ c .before .before .before .args .ages ∷ [])) (omega arith)
 
--- src/text.rt:112:27
 slice-aggregate-put-total : tie.Need-slice-aggregate-put-total
 slice-aggregate-put-total c = search needs
 
--- src/text.rt:112:9
 put-total-requires : tie.Need-put-total-requires
 put-total-requires c κs = search needs
 
--- src/text.rt:113:28
 slice-aggregate-put-total-2 : tie.Need-slice-aggregate-put-total-2
 slice-aggregate-put-total-2 c = search needs
 
--- src/text.rt:113:9
 put-total-requires-2 : tie.Need-put-total-requires-2
 put-total-requires-2 c κs = omega (arith, ends (99 ∷ 108 ∷ 111 ∷ 99 ∷ 107 ∷ 32 ∷ []) (c .before .before .before .before .before .before .before .before .before .before .args .clock) (omega arith) (c .before .before .before .before .put-total .ensures), written-length (c .before .before .before .before .put-total .ensures))
 
--- src/text.rt:114:27
 slice-aggregate-put-total-3 : tie.Need-slice-aggregate-put-total-3
 slice-aggregate-put-total-3 c = search needs
 
--- src/text.rt:114:9
 put-total-requires-3 : tie.Need-put-total-requires-3
 put-total-requires-3 c κs = omega (arith, ends (99 ∷ 108 ∷ 111 ∷ 99 ∷ 107 ∷ 32 ∷ []) (c .before .before .before .before .before .before .before .before .before .before .before .before .before .before .before .args .clock) (omega arith) (c .before .before .before .before .before .before .before .before .before .put-total .ensures), written-length (c .before .before .before .before .before .before .before .before .before .put-total .ensures), ends (32 ∷ 99 ∷ 108 ∷ 97 ∷ 105 ∷ 109 ∷ 115 ∷ 32 ∷ []) (c .before .before .before .before .before .before .before .before .before .before .before .before .before .before .before .args .claims) (omega arith) (c .before .before .before .before .put-total2 .ensures), written-length (c .before .before .before .before .put-total2 .ensures))
 
--- src/text.rt:115:25
 slice-aggregate-put-total-4 : tie.Need-slice-aggregate-put-total-4
 slice-aggregate-put-total-4 c = search needs
 
--- src/text.rt:115:9
 put-total-requires-4 : tie.Need-put-total-requires-4
 put-total-requires-4 c κs = omega (arith, ends (99 ∷ 108 ∷ 111 ∷ 99 ∷ 107 ∷ 32 ∷ []) (c .before .before .before .before .before .before .before .before .before .before .before .before .before .before .before .before .before .before .before .before .args .clock) (omega arith) (c .before .before .before .before .before .before .before .before .before .before .before .before .before .before .put-total .ensures), written-length (c .before .before .before .before .before .before .before .before .before .before .before .before .before .before .put-total .ensures), ends (32 ∷ 99 ∷ 108 ∷ 97 ∷ 105 ∷ 109 ∷ 115 ∷ 32 ∷ []) (c .before .before .before .before .before .before .before .before .before .before .before .before .before .before .before .before .before .before .before .before .args .claims) (omega arith) (c .before .before .before .before .before .before .before .before .before .put-total2 .ensures), written-length (c .before .before .before .before .before .before .before .before .before .put-total2 .ensures), ends (32 ∷ 119 ∷ 97 ∷ 105 ∷ 116 ∷ 101 ∷ 100 ∷ 32 ∷ []) (c .before .before .before .before .before .before .before .before .before .before .before .before .before .before .before .before .before .before .before .before .args .waited) (omega arith) (c .before .before .before .before .put-total3 .ensures), written-length (c .before .before .before .before .put-total3 .ensures))
 
--- src/text.rt:116:5
 slice-write-output : tie.Need-slice-write-output
 slice-write-output c = omega (arith, ends (99 ∷ 108 ∷ 111 ∷ 99 ∷ 107 ∷ 32 ∷ []) (c .before .before .before .before .before .before .before .before .before .before .before .before .before .before .before .before .before .before .before .before .before .before .before .args .clock) (omega arith) (c .before .before .before .before .before .before .before .before .before .before .before .before .before .before .before .before .before .put-total .ensures), written-length (c .before .before .before .before .before .before .before .before .before .before .before .before .before .before .before .before .before .put-total .ensures), ends (32 ∷ 99 ∷ 108 ∷ 97 ∷ 105 ∷ 109 ∷ 115 ∷ 32 ∷ []) (c .before .before .before .before .before .before .before .before .before .before .before .before .before .before .before .before .before .before .before .before .before .before .before .args .claims) (omega arith) (c .before .before .before .before .before .before .before .before .before .before .before .before .put-total2 .ensures), written-length (c .before .before .before .before .before .before .before .before .before .before .before .before .put-total2 .ensures), ends (32 ∷ 119 ∷ 97 ∷ 105 ∷ 116 ∷ 101 ∷ 100 ∷ 32 ∷ []) (c .before .before .before .before .before .before .before .before .before .before .before .before .before .before .before .before .before .before .before .before .before .before .before .args .waited) (omega arith) (c .before .before .before .before .before .before .before .put-total3 .ensures), written-length (c .before .before .before .before .before .before .before .put-total3 .ensures), ends (32 ∷ 111 ∷ 112 ∷ 101 ∷ 110 ∷ 32 ∷ []) (c .before .before .before .before .before .before .before .before .before .before .before .before .before .before .before .before .before .before .before .before .before .before .before .args .ages) (omega arith) (c .before .before .put-total4 .ensures), written-length (c .before .before .put-total4 .ensures))
 
--- src/text.rt:117:5
 add-result : tie.Need-add-result
 add-result c = omega (arith, ends (99 ∷ 108 ∷ 111 ∷ 99 ∷ 107 ∷ 32 ∷ []) (c .before .before .before .before .before .before .before .before .before .before .before .before .before .before .before .before .before .before .before .before .before .before .before .args .clock) (omega arith) (c .before .before .before .before .before .before .before .before .before .before .before .before .before .before .before .before .before .put-total .ensures), ends (32 ∷ 99 ∷ 108 ∷ 97 ∷ 105 ∷ 109 ∷ 115 ∷ 32 ∷ []) (c .before .before .before .before .before .before .before .before .before .before .before .before .before .before .before .before .before .before .before .before .before .before .before .args .claims) (omega arith) (c .before .before .before .before .before .before .before .before .before .before .before .before .put-total2 .ensures), ends (32 ∷ 119 ∷ 97 ∷ 105 ∷ 116 ∷ 101 ∷ 100 ∷ 32 ∷ []) (c .before .before .before .before .before .before .before .before .before .before .before .before .before .before .before .before .before .before .before .before .before .before .before .args .waited) (omega arith) (c .before .before .before .before .before .before .before .put-total3 .ensures), ends (32 ∷ 111 ∷ 112 ∷ 101 ∷ 110 ∷ 32 ∷ []) (c .before .before .before .before .before .before .before .before .before .before .before .before .before .before .before .before .before .before .before .before .before .before .before .args .ages) (omega arith) (c .before .before .put-total4 .ensures))
 
--- src/text.rt:96:1
 same-length : tie.Need-same-length
 same-length c = length-set (c .before .before .put-total4 .last .1 .1 .0) (c .before .before .put-total4 .result) 10 ∙ written-length (c .before .before .put-total4 .ensures) ∙ written-length (c .before .before .before .before .before .before .before .put-total3 .ensures) ∙ written-length (c .before .before .before .before .before .before .before .before .before .before .before .before .put-total2 .ensures) ∙ written-length (c .before .before .before .before .before .before .before .before .before .before .before .before .before .before .before .before .before .put-total .ensures)
 
--- src/text.rt:96:1
 returns-3 : tie.Need-returns-3
 unfolding totalsLine
 returns-3 c =

@@ -1,19 +1,17 @@
-use mathlib.Core.Path.{_≡_, _∙_, refl, sym, ap, subst}
-use mathlib.Core.List.{List, [], _∷_, _++_}
-use Prim.Native.Nat.{ℕ, _+_, _≤_, _<_}
+-- `text::put_value` meets its contract: the letter, the number and the line feed.
+-- Assumes nothing.
+use mathlib.Core.Path.{_≡_, _∙_, refl, ap, subst}
+use mathlib.Core.List.{List, [], _∷_}
+use Prim.Native.Nat.{ℕ, _+_}
 use native.Mathlib.Omega.{arith}
-use lib.ListN.{length, set, length-set, length-append}
-use Rattle.replaying.specs.Replay.{digits, refusedLine, valueLine, totalsLine}
-use Rattle.replaying.specs.Text.{Written, saidBytes}
-use Rattle.replaying.proofs.Print.{digits-narrow, digits-wide, written-length, written-then, written-byte, put-written, put-nothing}
+use lib.ListN.{length, set, length-set}
+use Rattle.replaying.specs.Replay.{valueLine}
+use Rattle.replaying.specs.Text.{Written}
+use Rattle.replaying.proofs.Print.{digits-narrow, written-length, written-then, written-byte}
 use borrow.Author.Needs.{needs}
 use native.Mathlib.Numerals.{add-one}
 use Rattle.replaying.proofs.text.put_value.Statement.{statement}
 use Rattle.replaying.proofs.text.put_value.Tie as tie
-use Rattle.replaying.proofs.text.put_value.Reads as reads
-use Rattle.replaying.proofs.text.put_value.Lts as lts
-use Rattle.replaying.proofs.text.put_digits.Reads as put-digits-reads
-use Rattle.replaying.proofs.text.wide.Reads as wide-reads
 
 -- the letter and the space
 two-length : (l : List ℕ) (at b : ℕ) → length (set (set l at b) (at + 1) 32) ≡ length l
@@ -22,43 +20,33 @@ two-length l at b = length-set (set l at b) (at + 1) 32 ∙ length-set l at b
 two-written : (l : List ℕ) (at b : ℕ) → Written l (set (set l at b) (at + 1) 32) at (at + 2) (b ∷ 32 ∷ [])
 two-written l at b = record { bytes = ap (λ (k : ℕ). set (set l at b) k 32) (add-one at); place = refl }
 
--- src/text.rt:60:5
 slice-write-output : tie.Need-slice-write-output
 slice-write-output c = search needs
 
--- src/text.rt:61:12
 add-output : tie.Need-add-output
 add-output c = search needs
 
--- src/text.rt:61:5
 slice-write-output-2 : tie.Need-slice-write-output-2
 slice-write-output-2 c = omega (arith, length-set (c .before .args .output .now) (c .before .args .at) (c .before .args .letter))
 
--- src/text.rt:62:26
 wide-requires : tie.Need-wide-requires
 wide-requires c κs = search needs
 
--- src/text.rt:62:43
 add-put-digits : tie.Need-add-put-digits
 add-put-digits c = search needs
 
--- src/text.rt:62:9
 put-digits-requires : tie.Need-put-digits-requires
 put-digits-requires c κs = omega (arith, digits-narrow (c .before .wide .result) (c .before .wide .ensures .1), two-length (c .before .before .before .args .output .now) (c .before .before .before .args .at) (c .before .before .before .args .letter))
 
--- src/text.rt:63:5
 slice-write-output-3 : tie.Need-slice-write-output-3
 slice-write-output-3 c = omega (arith, digits-narrow (c .before .before .before .before .wide .result) (c .before .before .before .before .wide .ensures .1), c .before .before .put-digits .ensures .place, written-length (c .before .before .put-digits .ensures), two-length (c .before .before .before .before .before .before .args .output .now) (c .before .before .before .before .before .before .args .at) (c .before .before .before .before .before .before .args .letter))
 
--- src/text.rt:64:5
 add-result : tie.Need-add-result
 add-result c = omega (arith, digits-narrow (c .before .before .before .before .wide .result) (c .before .before .before .before .wide .ensures .1), c .before .before .put-digits .ensures .place)
 
--- src/text.rt:56:1
 same-length : tie.Need-same-length
 same-length c = length-set (c .before .before .put-digits .last .1 .0) (c .before .before .put-digits .result) 10 ∙ written-length (c .before .before .put-digits .ensures) ∙ two-length (c .before .before .before .before .before .before .args .output .now) (c .before .before .before .before .before .before .args .at) (c .before .before .before .before .before .before .args .letter)
 
--- src/text.rt:56:1
 returns : tie.Need-returns
 unfolding valueLine
 returns c =
