@@ -4,3 +4,4 @@ pub mod Last
 pub mod Letters
 pub mod Starts
 pub mod Places
+pub mod Fixed

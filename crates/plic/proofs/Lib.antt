@@ -5,6 +5,8 @@ pub mod Sounds
 pub mod Answers
 pub mod Obeyed
 pub mod Going
+pub mod Rooms
+pub mod FirstLines
 pub mod Parts
 pub mod Endings
 pub mod Once

@@ -1,47 +1,35 @@
--- What feeding a piece rests on: when a replay is fit, what the first line comes to, and how the parts of a piece go together.
+-- How the parts of a piece of a script go together: when a replay can go on, a line that ends, and the rest after it.
 -- Assumes nothing.
 use mathlib.Core.Path.{_≡_, _∙_, refl, sym, ap, subst}
 use mathlib.Core.Bool.{Bool, true, _&&_, So, and-true}
 use mathlib.Core.List.{List, [], _∷_, _++_}
 use mathlib.Core.Logic.{⊎-elim}
 use Prim.Native.Nat.{ℕ, suc, _+_, _-_, _≤_, _<_}
-use native.Mathlib.Nat.{zero-add, add-zero, min-le-left, min-le-right}
+use native.Mathlib.Nat.{zero-add, add-zero}
 use native.Mathlib.Numerals.{add-one}
 use native.Mathlib.Omega.{arith}
 use lib.Dec.{leb, ltb, eqb}
-use lib.ListN.{length, take, drop, set, replicate, length-append, length-take, length-drop, length-replicate, take-append-drop}
-use lib.Seq.{sets, length-sets, take-all, take-length, take-suc-set, take-append-add, take-append-seam, drop-append-le, length-take-le}
-use borrow.Author.Tests.{le-leb, leb-true, leb-false, eq-eqb, eqb-true, ltb-true, ltb-false, lt-ltb, le-ltb}
+use lib.ListN.{length, take, drop, length-append, length-drop, take-append-drop}
+use lib.Seq.{sets, take-all, take-length, take-append-seam, drop-append-le}
+use borrow.Author.Tests.{le-leb, leb-true, leb-false, eq-eqb, eqb-true, ltb-true}
 use Rattle.laws.specs.Fold.{allOf}
-use Rattle.laws.proofs.Truth.{and-left, and-right, cond-so, cond-not, cond-elim, dichotomy}
-use Rattle.laws.proofs.Lists.{sets-append}
+use Rattle.laws.proofs.Truth.{and-left, and-right, cond-elim, dichotomy}
 use Rattle.model.specs.declared.State.{State}
 use Rattle.model.specs.declared.Answered.{Answered}
-use Rattle.model.specs.declared.Answer.{Answer}
-use Rattle.model.specs.declared.Answer.the-variants.{Value, Refused}
-use Rattle.model.specs.declared.Refusal.{Refusal}
-use Rattle.model.specs.Refusals.{numberOf, answerNumber, answered}
-use Rattle.model.specs.Calls.{make}
-use Rattle.model.specs.Sound.{Sound}
-use Rattle.model.proofs.Make.{made-sound}
-use Rattle.commands.specs.declared.Command.{Command}
-use Rattle.commands.specs.declared.Command.the-variants.{Make, Line, Advance, Read, Write, Notify, Unreadable}
-use Rattle.commands.specs.Grammar.{words, ofWords, startOf, commandOf}
+use Rattle.commands.specs.declared.Command.the-variants.{Unreadable}
+use Rattle.commands.specs.Grammar.{words, ofWords, commandOf}
 use Rattle.replaying.specs.declared.Place.the-variants.{On}
 use Rattle.replaying.specs.declared.Replaying.{Replaying}
-use Rattle.replaying.specs.Replay.{Stand, before, on, ended, Told, refusedLine, kindBytes, started, badStart, firstLine, answer, Replay, lineEnds, fedAll}
+use Rattle.replaying.specs.Replay.{Stand, before, on, ended, Told, refusedLine, answer, Replay, lineEnds, fedAll}
 use Rattle.replaying.specs.Text.{Written}
 use Rattle.replaying.specs.Pieces.{lineLength, lineFeeds, begunAt, padded, kept, boardSound, fit}
 use Rattle.replaying.proofs.Print.{written-then}
 use Rattle.replaying.proofs.Chunks.{fed-apart}
 use Rattle.replaying.proofs.Ends.{fed-held, fed-line, line-most, feeds-append}
-use Rattle.replaying.proofs.InPieces.{padded-held}
-use Rattle.replaying.proofs.Through.{cut-answer, no-end, one-end, ended-stays, line-append, line-whole, line-drop, feeds-none, too-long, unreadable-answer}
-use Rattle.plic.specs.declared.held.Held.{Held}
+use Rattle.replaying.proofs.Through.{no-end, one-end, ended-stays, line-append, line-whole, line-drop, feeds-none, too-long, unreadable-answer}
 use Rattle.plic.specs.declared.lines.Went.{Went}
 use Rattle.plic.specs.declared.feeding.Part.{Part}
 use Rattle.plic.specs.Engine.{boarded, standIn, Gone, Feeds}
-use Rattle.plic.proofs.Obeyed.{SoundAt, not-zero}
 
 -- a replay of which one line's beginning is held is fit if its board is sound
 pub fit-board : (r : Replaying) → r .held ≤ 256 → lineLength (take (r .held) (r .begun)) ≡ r .held → fit r ≡ boardSound (r .place) (r .state)
@@ -51,81 +39,15 @@ fit-board r h e =
     ∙ ap (λ (t : Bool). t && (boardSound (r .place) (r .state) && true)) (eq-eqb _ _ e)
     ∙ and-true (boardSound (r .place) (r .state))
 
--- what is no first line makes no difference to a first line
-start-same : (c : Command) (bytes : List ℕ) → firstLine (startOf c) bytes ≡ firstLine c bytes
-unfolding startOf firstLine
-start-same (Make n m b k) bytes = refl
-start-same (Line i v) bytes = refl
-start-same (Advance n) bytes = refl
-start-same (Read off) bytes = refl
-start-same (Write off v) bytes = refl
-start-same (Notify c) bytes = refl
-start-same Unreadable bytes = refl
-
--- the first line by the command that the grammar found
-pub first-as : (bytes : List ℕ) (found k : Command) → found ≡ startOf (commandOf bytes) → found ≡ k → firstLine k bytes ≡ firstLine (commandOf bytes) bytes
-first-as bytes found k e f = ap (λ (c : Command). firstLine c bytes) (sym f ∙ e) ∙ start-same (commandOf bytes) bytes
-
--- two parts joined in a room of 256
-pub joined-is : (first more bytes bytes′ : List ℕ) (held count : ℕ) → length first ≤ 256 →
-    bytes ≡ sets (replicate 256 0) 0 (take (256 - 0) first) → held ≡ 0 + length (take (256 - 0) first) →
-    bytes′ ≡ sets bytes held (take (256 - held) more) → count ≡ held + length (take (256 - held) more) →
-    _≡_ {A = Held} (record { bytes = bytes′; count = count }) (record { bytes = padded (first ++ more); count = length (take 256 (first ++ more)) })
-unfolding padded
-joined-is first more bytes bytes′ held count h e f g k = λ i. record { bytes = stored i; count = counted i }
-  where
-    all : take (256 - 0) first ≡ first
-    all = take-all (256 - 0) first h
-
-    long : held ≡ length first
-    long = f ∙ zero-add _ ∙ ap length all
-
-    cut : first ++ take (256 - held) more ≡ take 256 (first ++ more)
-    cut =
-        let room : 256 ≡ length first + (256 - held) = omega (arith, long, h) in
-        sym (ap (λ (n : ℕ). take n (first ++ more)) room ∙ take-append-add first more (256 - held))
-
-    stored : bytes′ ≡ sets (replicate 256 0) 0 (take 256 (first ++ more))
-    stored =
-        g ∙ (λ i. sets ((e ∙ ap (sets (replicate 256 0) 0) all) i) ((long ∙ sym (zero-add (length first))) i) (take (256 - held) more))
-        ∙ sym (sets-append (replicate 256 0) 0 first (take (256 - held) more)) ∙ ap (sets (replicate 256 0) 0) cut
-
-    counted : count ≡ length (take 256 (first ++ more))
-    counted = k ∙ ap (λ (n : ℕ). n + length (take (256 - held) more)) long ∙ sym (length-append first (take (256 - held) more)) ∙ ap length cut
-
-pub padded-length : (l : List ℕ) → length (padded l) ≡ 256
-unfolding padded
-padded-length l = length-sets (replicate 256 0) 0 (take 256 l) ∙ length-replicate {A = ℕ} 256 0
-
--- a line with its line feed, in that room
-ended-at : (l bytes : List ℕ) (held : ℕ) → bytes ≡ padded l → held < 256 → take held (padded l) ≡ standIn l →
-    take (held + 1) (set bytes held 10) ≡ standIn l ++ (10 ∷ [])
-ended-at l bytes held e h f =
-    (λ i. take (add-one held i) (set (e i) held 10))
-    ∙ take-suc-set (padded l) held 10 (omega (arith, padded-length l, h)) ∙ ap (λ (k : List ℕ). k ++ (10 ∷ [])) f
-
-pub ended-full : (l bytes : List ℕ) (held : ℕ) → bytes ≡ padded l → length (take 256 l) ≡ 256 → held ≡ 0 →
-    (take (held + 1) (set bytes held 10) ≡ standIn l ++ (10 ∷ [])) × (held < 256)
-unfolding standIn
-ended-full l bytes held e f g =
-    let long : 255 < length l = omega (arith, f, length-take 256 l, min-le-right 256 (length l)) in
-    let none = ap (λ (k : ℕ). take k (padded l)) g ∙ sym (cond-so [] l (lt-ltb 255 (length l) long)) in
-    (ended-at l bytes held e (omega (arith, g)) none, omega (arith, g))
-
-pub ended-part : (l bytes : List ℕ) (held : ℕ) → bytes ≡ padded l → (length (take 256 l) ≡ 256 → ⊥) → held ≡ length (take 256 l) →
-    (take (held + 1) (set bytes held 10) ≡ standIn l ++ (10 ∷ [])) × (held < 256)
-unfolding standIn
-ended-part l bytes held e f g =
-    let less : length (take 256 l) < 256 = omega (arith, f, length-take 256 l, min-le-left 256 (length l)) in
-    let short : length l ≤ 255 = short-of l less in
-    let whole = ap (λ (k : ℕ). take k (padded l)) g ∙ padded-held l ∙ take-all 256 l (omega (arith, short)) ∙ sym (cond-not [] l (le-ltb 255 (length l) short)) in
-    (ended-at l bytes held e (omega (arith, g, less)) whole, omega (arith, g, less))
-  where
-    short-of : (l : List ℕ) → length (take 256 l) < 256 → length l ≤ 255
-    short-of l h = ⊎-elim
-        (λ (t : So (ltb 255 (length l))). absurd (omega (arith, h, length-take-le 256 l (omega (arith, ltb-true 255 (length l) t)))))
-        (λ t. ltb-false 255 (length l) t)
-        (dichotomy (ltb 255 (length l)))
+-- what a fit replay may rely on
+pub fit-facts : (r : Replaying) → So (fit r) → (r .held ≤ 256) × (lineLength (take (r .held) (r .begun)) ≡ r .held) × So (boardSound (r .place) (r .state))
+unfolding fit allOf
+fit-facts r t =
+    let rest = and-right (leb (r .held) 256) _ t in (
+      leb-true _ _ (and-left (leb (r .held) 256) _ t),
+      eqb-true _ _ (and-left (eqb (lineLength (take (r .held) (r .begun))) (r .held)) _ rest),
+      and-left (boardSound (r .place) (r .state)) true (and-right (eqb (lineLength (take (r .held) (r .begun))) (r .held)) _ rest),
+    )
 
 -- an empty line may stand for one that is too long
 pub stand-in-answer : (s : State) (l : List ℕ) → answer (on s) (standIn l) ≡ answer (on s) l
@@ -283,43 +205,6 @@ feeds-board s b input out mid out′ line end w part e f ne g gone feeds =
         ap (λ (k : ℕ). answer (on s) (b ++ take k input) .stand) (sym is)
         ∙ ap (λ (t : Told). t .stand) (sym (stand-in-answer s (b ++ take end input))) ∙ told .0
 
-made-stand : (n m b : ℕ) (kinds : List ℕ) → SoundAt (started (make n m b kinds) .stand)
-unfolding started
-made-stand n m b kinds = cond-elim SoundAt (eqb (make n m b kinds .number) 0) (λ t. made-sound n m b kinds (eqb-true _ 0 t) .1) (λ _. tt)
-
-first-line-sound : (c : Command) (bytes : List ℕ) → SoundAt (firstLine c bytes .stand)
-unfolding firstLine badStart
-first-line-sound (Make n m b k) bytes = made-stand n m b (kindBytes (drop k bytes))
-first-line-sound (Line i v) bytes = tt
-first-line-sound (Advance n) bytes = tt
-first-line-sound (Read off) bytes = tt
-first-line-sound (Write off v) bytes = tt
-first-line-sound (Notify c) bytes = tt
-first-line-sound Unreadable bytes = tt
-
-first-sound : (bytes : List ℕ) → SoundAt (answer before bytes .stand)
-unfolding answer
-first-sound bytes = first-line-sound (commandOf bytes) bytes
-
--- the first line: a board is made, or none
-module _ (l line : List ℕ) (made : Answered) (cut : line ≡ take 256 l) (started-is : started (answered made) ≡ firstLine (commandOf line) line) where
-  told-first : answer before l ≡ started (answered made)
-  told-first = sym (ap (answer before) cut ∙ cut-answer before l) ∙ (unfold answer in sym started-is)
-
-  pub told-made : (v : ℕ) → made .answer ≡ Value v → answer before l ≡ record { stand = on (made .state); prints = [] }
-  unfolding started answered answerNumber
-  told-made v e = told-first ∙ ap (λ (a : Answer). started (answered (record { answer = a; state = made .state }))) e
-
-  pub told-unmade : (why : Refusal) → made .answer ≡ Refused why → answer before l ≡ record { stand = ended; prints = refusedLine (numberOf why) }
-  unfolding started answered answerNumber
-  told-unmade why e =
-      told-first ∙ ap (λ (a : Answer). started (answered (record { answer = a; state = made .state }))) e
-      ∙ (λ i. record { stand = cond-not (on (made .state)) ended (not-zero why) i; prints = cond-not [] (refusedLine (numberOf why)) (not-zero why) i })
-
-  -- and the board is sound
-  pub made-is-sound : (v : ℕ) → made .answer ≡ Value v → Sound (made .state)
-  made-is-sound v e = subst SoundAt (ap (λ (t : Told). t .stand) (told-made v e)) (first-sound l)
-
 -- a piece that ends the first line
 module _ (b input out : List ℕ) (end : ℕ) (made : Answered) (part : Part) (found : end ≡ 0 + lineLength (drop 0 input)) (ends : end ≡ length input → ⊥) where
   is : end ≡ lineLength input
@@ -342,23 +227,3 @@ module _ (b input out : List ℕ) (end : ℕ) (made : Answered) (part : Part) (f
   feeds-unmade mid written number e v f =
       feeds-through before b input out mid mid written part (record { stand = ended; prints = refusedLine number }) there (told-at _ e) v
       (feeds-ended (begunAt ended []) (drop (suc (lineLength input)) input) mid written part refl refl f)
-
--- the line that is joined, as it is lent
-pub joined-cut : (l : List ℕ) (h : Held) → h ≡ record { bytes = padded l; count = length (take 256 l) } → take (h .count) (h .bytes) ≡ take 256 l
-joined-cut l h e = (λ i. take (e i .count) (e i .bytes)) ∙ padded-held l
-
-pub joined-room : (l : List ℕ) (h : Held) → h ≡ record { bytes = padded l; count = length (take 256 l) } → (h .count ≤ 256) × (length (h .bytes) ≡ 256)
-joined-room l h e = (
-  omega (arith, ap (λ (k : Held). k .count) e, length-take 256 l, min-le-left 256 (length l)),
-  ap (λ (k : Held). length (k .bytes)) e ∙ padded-length l,
-)
-
--- what a fit replay may rely on
-pub fit-facts : (r : Replaying) → So (fit r) → (r .held ≤ 256) × (lineLength (take (r .held) (r .begun)) ≡ r .held) × So (boardSound (r .place) (r .state))
-unfolding fit allOf
-fit-facts r t =
-    let rest = and-right (leb (r .held) 256) _ t in (
-      leb-true _ _ (and-left (leb (r .held) 256) _ t),
-      eqb-true _ _ (and-left (eqb (lineLength (take (r .held) (r .begun))) (r .held)) _ rest),
-      and-left (boardSound (r .place) (r .state)) true (and-right (eqb (lineLength (take (r .held) (r .begun))) (r .held)) _ rest),
-    )

@@ -1,5 +1,5 @@
 // The controller. Leaves know lent arrays and numbers; steps change lent arrays in place; calls take a state by value, check it
-// once and answer for every input.
+// once and answer for every input; the feeding of a replay is a batch over the steps.
 mod arbiter;
 mod board;
 mod calls;

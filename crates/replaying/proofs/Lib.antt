@@ -7,3 +7,4 @@ pub mod Example
 pub mod Boards
 pub mod InPieces
 pub mod Short
+pub mod Fixed

@@ -15,7 +15,9 @@ use Rattle.replaying.specs.Text.{saidBytes, Written}
 use Rattle.replaying.specs.Pieces.{padded, kept}
 use Rattle.replaying.proofs.Print.{written-put}
 use Rattle.replaying.proofs.Ends.{line-most, feeds-most}
-use Rattle.plic.proofs.Parts.{feeds-begun, feeds-made, feeds-unmade, told-made, told-unmade, made-is-sound, joined-cut, joined-room}
+use Rattle.plic.proofs.Rooms.{joined-cut, joined-room}
+use Rattle.plic.proofs.FirstLines.{told-made, told-unmade, made-is-sound}
+use Rattle.plic.proofs.Parts.{feeds-begun, feeds-made, feeds-unmade}
 use borrow.Author.Needs.{needs}
 use Rattle.plic.proofs.feeding.feed_first.Statement.{statement}
 use Rattle.plic.proofs.feeding.feed_first.Tie as tie

@@ -6,7 +6,7 @@ use lib.ListN.{length}
 use lib.Seq.{length-take-le}
 use Rattle.model.specs.Calls.{make}
 use Rattle.replaying.specs.Replay.{started, firstLine}
-use Rattle.plic.proofs.Parts.{first-as}
+use Rattle.plic.proofs.FirstLines.{first-as}
 use borrow.Author.Needs.{needs}
 use Rattle.plic.proofs.first.first_line.Statement.{statement}
 use Rattle.plic.proofs.first.first_line.Tie as tie

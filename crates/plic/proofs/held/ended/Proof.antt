@@ -8,7 +8,7 @@ use native.Mathlib.Omega.{arith}
 use lib.ListN.{take, set}
 use Rattle.plic.specs.declared.held.Held.{Held}
 use Rattle.plic.specs.Engine.{standIn}
-use Rattle.plic.proofs.Parts.{ended-full, ended-part}
+use Rattle.plic.proofs.Rooms.{ended-full, ended-part}
 use borrow.Author.Needs.{needs}
 use Rattle.plic.proofs.held.ended.Statement.{statement}
 use Rattle.plic.proofs.held.ended.Tie as tie

@@ -3,7 +3,7 @@
 use native.Mathlib.Nat.{min-le-left}
 use native.Mathlib.Omega.{arith}
 use lib.ListN.{length, length-take}
-use Rattle.plic.proofs.Parts.{joined-is}
+use Rattle.plic.proofs.Rooms.{joined-is}
 use borrow.Author.Needs.{needs}
 use Rattle.plic.proofs.held.joined.Statement.{statement}
 use Rattle.plic.proofs.held.joined.Tie as tie
