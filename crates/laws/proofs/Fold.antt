@@ -1,7 +1,7 @@
 -- The laws of the folds of specs/Fold: what each means at an index, and that a change at one index changes a sum by as much.
 -- Assumes nothing.
 use mathlib.Core.Path.{_≡_, _∙_, refl, sym, ap, ap₂, subst}
-use mathlib.Core.Bool.{Bool, true, false, cond, _&&_, _||_, So, and-true, and-assoc}
+use mathlib.Core.Bool.{Bool, true, false, cond, _&&_, So, and-true, and-assoc}
 use mathlib.Core.Logic.{_⊎_, ⊎-elim, _≢_}
 use mathlib.Core.List.{List, [], _∷_}
 use lib.ListN.{getD}
@@ -233,11 +233,3 @@ sum-more f i = ap (sumTo f) (add-one i)
 pub all-more : (f : ℕ → Bool) (i : ℕ) → allTo f (i + 1) ≡ (allTo f i && f i)
 unfolding allTo
 all-more f i = ap (allTo f) (add-one i)
-
-pub any-more : (f : ℕ → Bool) (i : ℕ) → anyTo f (i + 1) ≡ (anyTo f i || f i)
-unfolding anyTo
-any-more f i = ap (anyTo f) (add-one i)
-
-pub best-more : (f : ℕ → ℕ) (i : ℕ) → best f (i + 1) ≡ cond (ltb (f (best f i)) (f i)) i (best f i)
-unfolding best
-best-more f i = ap (best f) (add-one i)
