@@ -12,6 +12,7 @@ use lib.Dec.{ltb, eqb}
 use lib.ListN.{length, getD, replicate}
 use lib.Seq.{getD-set-same, getD-set-other}
 use borrow.Author.Tests.{eqb-true, eqb-false, eq-eqb, ne-eqb}
+use Rattle.limits.specs.Limits.{sourceRoom, bucketRoom}
 use Rattle.laws.specs.Fold.{sumTo}
 use Rattle.laws.proofs.Truth.{dichotomy, not-so, so-not, and-left, cond-so, cond-not, cond-elim}
 use Rattle.laws.proofs.Fold.{test-at, same-or-other, sum-ext, sum-add, sum-scale}
@@ -153,9 +154,9 @@ at-carried i clock count sum rose since r k es fs f g same-claims same-ticks ser
 
 -- what the state holds agrees with the log; the account follows from it
 pub record Logged (s : State) (p : Past) : Type 0 where
-  pub at : (i : ℕ) → i < 128 →
+  pub at : (i : ℕ) → i < sourceRoom →
       At i (request (s .requests) i) (sourceClaims (s .counts) i) (sourceWaited (s .counts) i) (p .rose i) (p .since i) (p .events)
-  pub bucket : (k : ℕ) → k < 33 →
+  pub bucket : (k : ℕ) → k < bucketRoom →
       (bucketClaims (s .buckets) k ≡ claimsIn (ofBucket k) (p .events)) × (bucketTicks (s .buckets) k ≡ ticksIn (ofBucket k) (p .events))
   pub separate : Separate (p .events)
   pub claims : boardClaims (s .counts) ≡ claimsIn every (p .events)
@@ -164,7 +165,7 @@ pub record Logged (s : State) (p : Past) : Type 0 where
 
 -- a wait booked with its bucket: what the bucket then holds, and that no other changes
 module _ (b : Buckets) (w : ℕ) where
-  booked-same : bucketOf w < 33 → length (b .claims) ≡ 33 → length (b .ticks) ≡ 33 →
+  booked-same : bucketOf w < bucketRoom → length (b .claims) ≡ bucketRoom → length (b .ticks) ≡ bucketRoom →
       (bucketClaims (booked b w) (bucketOf w) ≡ bucketClaims b (bucketOf w) + 1)
       × (bucketTicks (booked b w) (bucketOf w) ≡ bucketTicks b (bucketOf w) + w)
   unfolding booked bucketClaims bucketTicks
@@ -187,35 +188,35 @@ later-open clock n r h = by-cases (isPending r)
     by-cases true = omega arith
     by-cases false = omega arith
 
-later-board : (clock n : ℕ) (q : Requests) → ((i : ℕ) → i < 128 → request q i .start ≤ clock) →
-    boardOpen (clock + n) q ≡ boardOpen clock q + n * sumTo (λ i. cond (isPending (request q i)) 1 0) 128
+later-board : (clock n : ℕ) (q : Requests) → ((i : ℕ) → i < sourceRoom → request q i .start ≤ clock) →
+    boardOpen (clock + n) q ≡ boardOpen clock q + n * sumTo (λ i. cond (isPending (request q i)) 1 0) sourceRoom
 unfolding boardOpen
 later-board clock n q h =
-    sum-ext _ (λ i. openAge clock (request q i) + n * cond (isPending (request q i)) 1 0) 128 (λ i l. later-open clock n (request q i) (h i l))
-    ∙ sum-add (λ i. openAge clock (request q i)) (λ i. n * cond (isPending (request q i)) 1 0) 128
-    ∙ ap (λ (x : ℕ). boardOpen clock q + x) (sum-scale n (λ i. cond (isPending (request q i)) 1 0) 128)
+    sum-ext _ (λ i. openAge clock (request q i) + n * cond (isPending (request q i)) 1 0) sourceRoom (λ i l. later-open clock n (request q i) (h i l))
+    ∙ sum-add (λ i. openAge clock (request q i)) (λ i. n * cond (isPending (request q i)) 1 0) sourceRoom
+    ∙ ap (λ (x : ℕ). boardOpen clock q + x) (sum-scale n (λ i. cond (isPending (request q i)) 1 0) sourceRoom)
 
 -- one request changed
 module _ (q : Requests) (i : ℕ) (r : Request) (room : Roomy q) where
-  one-carried : (clock : ℕ) → Carries clock (request q i) r → (j : ℕ) → j < 128 → Carries clock (request q j) (request (setRequest q i r) j)
-  one-carried clock c j = same-or-other (λ j. j < 128 → Carries clock (request q j) (request (setRequest q i r) j)) i j
+  one-carried : (clock : ℕ) → Carries clock (request q i) r → (j : ℕ) → j < sourceRoom → Carries clock (request q j) (request (setRequest q i r) j)
+  one-carried clock c j = same-or-other (λ j. j < sourceRoom → Carries clock (request q j) (request (setRequest q i r) j)) i j
       (λ h. subst (Carries clock (request q i)) (sym (request-same q i r room h)) c)
       (λ ne h. subst (Carries clock (request q j)) (sym (request-other q i r j ne)) (carries-same clock _ _ refl refl))
 
-  one-stage : (Why : ℕ → Type 0) → (Why i → r .stage ≡ 2) → ((j : ℕ) → j < 128 → j ≢ i → Why j → request q j .stage ≡ 2) →
-      (j : ℕ) → j < 128 → Why j → request (setRequest q i r) j .stage ≡ 2
-  one-stage Why own others j = same-or-other (λ j. j < 128 → Why j → request (setRequest q i r) j .stage ≡ 2) i j
+  one-stage : (Why : ℕ → Type 0) → (Why i → r .stage ≡ 2) → ((j : ℕ) → j < sourceRoom → j ≢ i → Why j → request q j .stage ≡ 2) →
+      (j : ℕ) → j < sourceRoom → Why j → request (setRequest q i r) j .stage ≡ 2
+  one-stage Why own others j = same-or-other (λ j. j < sourceRoom → Why j → request (setRequest q i r) j .stage ≡ 2) i j
       (λ h y. ap (λ (k : Request). k .stage) (request-same q i r room h) ∙ own y)
       (λ ne h y. ap (λ (k : Request). k .stage) (request-other q i r j ne) ∙ others j h ne y)
 
 module _ (s : State) (p : Past) (f : Logged s p) where
   -- no wait ends and no tick passes
   carried : (t : State) (new : List Event) → t .clock ≡ s .clock → t .counts ≡ s .counts → t .buckets ≡ s .buckets →
-      ((i : ℕ) → i < 128 → Carries (t .clock) (request (s .requests) i) (request (t .requests) i)) →
+      ((i : ℕ) → i < sourceRoom → Carries (t .clock) (request (s .requests) i) (request (t .requests) i)) →
       ((pick : ℕ → ℕ → Bool) → (claimsIn pick (new ++ p .events) ≡ claimsIn pick (p .events))
       × (ticksIn pick (new ++ p .events) ≡ ticksIn pick (p .events))) →
       Separate (new ++ p .events) →
-      ((i : ℕ) → i < 128 → So (lastIsClaim i (new ++ p .events)) → request (t .requests) i .stage ≡ 2) →
+      ((i : ℕ) → i < sourceRoom → So (lastIsClaim i (new ++ p .events)) → request (t .requests) i .stage ≡ 2) →
       Logged t (grown p s t 0 new)
   unfolding grown rises bitOf
   carried t new clock counts buckets carries same separate serving = record {
@@ -239,8 +240,8 @@ module _ (s : State) (p : Past) (f : Logged s p) where
     where
       ages : boardOpen (t .clock) (t .requests) ≡ boardOpen (s .clock) (s .requests)
       ages = unfold boardOpen in
-          sum-ext _ _ 128 (λ i h. carries-age (t .clock) (request (s .requests) i) (request (t .requests) i) (carries i h))
-          ∙ ap (λ (x : ℕ). sumTo (λ i. openAge x (request (s .requests) i)) 128) clock
+          sum-ext _ _ sourceRoom (λ i h. carries-age (t .clock) (request (s .requests) i) (request (t .requests) i) (carries i h))
+          ∙ ap (λ (x : ℕ). sumTo (λ i. openAge x (request (s .requests) i)) sourceRoom) clock
 
   quiet : (t : State) → t .clock ≡ s .clock → t .requests ≡ s .requests → t .counts ≡ s .counts → t .buckets ≡ s .buckets →
       Logged t (grown p s t 0 [])
@@ -307,7 +308,7 @@ module _ (s : State) (p : Past) (f : Logged s p) where
     }
 
     -- a source is claimed
-    module _ (i : ℕ) (h : i < 128) (pending : So (isPending (request (s .requests) i))) where
+    module _ (i : ℕ) (h : i < sourceRoom) (pending : So (isPending (request (s .requests) i))) where
       abbrev r : Request
       r = request (s .requests) i
 
@@ -317,7 +318,7 @@ module _ (s : State) (p : Past) (f : Logged s p) where
       abbrev es : List Event
       es = claimed i w ∷ p .events
 
-      inside : bucketOf w < 33
+      inside : bucketOf w < bucketRoom
       unfolding wait
       inside = omega (arith, bucket-holds w (omega (arith, sound .types .clock)) .exists)
 
@@ -354,7 +355,7 @@ module _ (s : State) (p : Past) (f : Logged s p) where
           stays : rising r (served r) ≡ false
           stays = ap (λ (b : Bool). not b && isPending (served r)) pending
 
-      other : (j : ℕ) → j < 128 → j ≢ i → AtThen j (request (s .requests) j)
+      other : (j : ℕ) → j < sourceRoom → j ≢ i → AtThen j (request (s .requests) j)
       other j l ne = subst₂
           (λ (x y : ℕ). At j k x y (p .rose j + cond (rising k k) 1 0) (cond (rising k k) (s .clock) (p .since j)) es)
           (sym (counted-other (s .counts) i w j ne .0)) (sym (counted-other (s .counts) i w j ne .1))
@@ -375,11 +376,11 @@ module _ (s : State) (p : Past) (f : Logged s p) where
       claim-of-logged : Logged (withSteps (claimOf s i) m) (grown p s (withSteps (claimOf s i) m) 0 (claimed i w ∷ []))
       unfolding withSteps claimOf withCounts withRequest grown rises bitOf
       claim-of-logged = record {
-        at = λ j. same-or-other (λ j. j < 128 → AtThen j (request (setRequest (s .requests) i (served r)) j)) i j
+        at = λ j. same-or-other (λ j. j < sourceRoom → AtThen j (request (setRequest (s .requests) i (served r)) j)) i j
             (λ l. subst (AtThen i) (sym (request-same (s .requests) i (served r) room l)) own)
             (λ ne l. subst (AtThen j) (sym (request-other (s .requests) i (served r) j ne)) (other j l ne));
         bucket = λ k. same-or-other
-            (λ k. k < 33 → (bucketClaims (booked (s .buckets) w) k ≡ claimsIn (ofBucket k) es)
+            (λ k. k < bucketRoom → (bucketClaims (booked (s .buckets) w) k ≡ claimsIn (ofBucket k) es)
             × (bucketTicks (booked (s .buckets) w) k ≡ ticksIn (ofBucket k) es)) (bucketOf w) k
             (λ l. (
               omega (arith, one-more .0, f .bucket (bucketOf w) l .0, picked (ofBucket (bucketOf w)) (eq-eqb (bucketOf w) (bucketOf w) refl) .0),
@@ -495,7 +496,7 @@ module _ (s : State) (p : Past) (f : Logged s p) where
   -- the stored ages are those that the run tells
   told-ages : boardOpen (s .clock) (s .requests) ≡ agesOpen s p
   unfolding boardOpen agesOpen bitOf openAge
-  told-ages = sum-ext _ _ 128 (λ i h. same-age (isPending (request (s .requests) i)) _ _ (f .at i h .started))
+  told-ages = sum-ext _ _ sourceRoom (λ i h. same-age (isPending (request (s .requests) i)) _ _ (f .at i h .started))
     where
       same-age : (b : Bool) (x y : ℕ) → (So b → x ≡ y) → cond b (s .clock - x) 0 ≡ cond b (s .clock - y) 0
       same-age true x y e = ap (λ (z : ℕ). s .clock - z) (e refl)

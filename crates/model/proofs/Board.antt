@@ -7,6 +7,7 @@ use Prim.Native.Nat.{ℕ, _+_, _<_}
 use native.Mathlib.Omega.{arith}
 use lib.ListN.{length-set}
 use lib.Seq.{getD-set-same, getD-set-other, set-getD}
+use Rattle.limits.specs.Limits.{sourceRoom}
 use Rattle.laws.specs.Fold.{sumTo}
 use Rattle.laws.proofs.Fold.{sum-change}
 use Rattle.model.specs.declared.Requests.{Requests}
@@ -34,7 +35,7 @@ module _ (q : Requests) (i : ℕ) (r : Request) where
       start = length-set (q .start) i (r .start) ∙ room .start;
     }
 
-    pub request-same : i < 128 → request (setRequest q i r) i ≡ r
+    pub request-same : i < sourceRoom → request (setRequest q i r) i ≡ r
     unfolding request setRequest
     request-same h = λ k. record {
       stage = getD-set-same (q .stage) i (r .stage) 0 (omega (arith, room .stage)) k;
@@ -44,11 +45,11 @@ module _ (q : Requests) (i : ℕ) (r : Request) where
     }
 
     -- a sum over all sources changes by as much as the one does
-    pub request-sum : (f : Request → ℕ) → i < 128 →
-        sumTo (λ j. f (request (setRequest q i r) j)) 128 + f (request q i) ≡ sumTo (λ j. f (request q j)) 128 + f r
+    pub request-sum : (f : Request → ℕ) → i < sourceRoom →
+        sumTo (λ j. f (request (setRequest q i r) j)) sourceRoom + f (request q i) ≡ sumTo (λ j. f (request q j)) sourceRoom + f r
     request-sum f h =
-        sum-change (λ j. f (request q j)) (λ j. f (request (setRequest q i r) j)) 128 i h (λ j ne. sym (ap f (request-other j ne)))
-        ∙ ap (λ (x : ℕ). sumTo (λ j. f (request q j)) 128 + x) (ap f (request-same h))
+        sum-change (λ j. f (request q j)) (λ j. f (request (setRequest q i r) j)) sourceRoom i h (λ j ne. sym (ap f (request-other j ne)))
+        ∙ ap (λ (x : ℕ). sumTo (λ j. f (request q j)) sourceRoom + x) (ap f (request-same h))
 
 -- putting back what was read changes nothing
 pub request-back : (q : Requests) (i : ℕ) → setRequest q i (request q i) ≡ q

@@ -11,6 +11,7 @@ use lib.ListN.{length, getD, set, length-set}
 use lib.Seq.{getD-set-same, getD-set-other}
 use lib.Pow.{pow-pos}
 use borrow.Author.Tests.{ltb-true, ltb-false, eqb-true, eqb-false}
+use Rattle.limits.specs.Limits.{sourceRoom, contextRoom, wordRoom, enableRoom, bucketRoom}
 use Rattle.laws.specs.Fold.{sumTo}
 use Rattle.laws.specs.Bits.{bit}
 use Rattle.laws.proofs.Fold.{same-or-other}
@@ -87,7 +88,7 @@ settled h clock i old new claimed waited r f most none = record {
 
 -- a context's clauses look at its threshold and its words alone
 same-context : (h : Shape) (g k : Settings) (c : ℕ) → threshold k c ≡ threshold g c →
-    ((w : ℕ) → w < 4 → enableWord k c w ≡ enableWord g c w) → SoundContext h g c → SoundContext h k c
+    ((w : ℕ) → w < wordRoom → enableWord k c w ≡ enableWord g c w) → SoundContext h g c → SoundContext h k c
 same-context h g k c t e f = record {
   absentThreshold = λ no-one. t ∙ f .absentThreshold no-one;
   absentEnables = λ no-one w l. e w l ∙ f .absentEnables no-one w l;
@@ -155,9 +156,9 @@ module _ (s : State) (f : Sound s) where
   }
 
   -- other settings
-  pub sound-settings : (g : Settings) → length (g .priority) ≡ 128 → length (g .enable) ≡ 32 → length (g .threshold) ≡ 8 →
-      ((i : ℕ) → i < 128 → (priority g i ≤ 2 ^ s .shape .bits - 1) × (isSource (s .shape .sources) i ≡ false → priority g i ≡ 0)) →
-      ((c : ℕ) → c < 8 → SoundContext (s .shape) g c) → Sound (withSettings s g)
+  pub sound-settings : (g : Settings) → length (g .priority) ≡ sourceRoom → length (g .enable) ≡ enableRoom → length (g .threshold) ≡ contextRoom →
+      ((i : ℕ) → i < sourceRoom → (priority g i ≤ 2 ^ s .shape .bits - 1) × (isSource (s .shape .sources) i ≡ false → priority g i ≡ 0)) →
+      ((c : ℕ) → c < contextRoom → SoundContext (s .shape) g c) → Sound (withSettings s g)
   unfolding withSettings
   sound-settings g a b d priorities context = record {
     types = record {
@@ -184,11 +185,11 @@ module _ (s : State) (f : Sound s) where
   }
 
   -- one source's request and counts, the buckets and the step count changed together
-  pub sound-request : (i : ℕ) (r : Request) (k : Counts) (b : Buckets) (n : ℕ) → i < 128 →
+  pub sound-request : (i : ℕ) (r : Request) (k : Counts) (b : Buckets) (n : ℕ) → i < sourceRoom →
       SoundSource (s .shape) (s .clock) i (priority (s .settings) i) (sourceClaims k i) (sourceWaited k i) r →
       ((j : ℕ) → j ≢ i → (sourceClaims k j ≡ sourceClaims (s .counts) j) × (sourceWaited k j ≡ sourceWaited (s .counts) j)) →
-      (length (k .claims) ≡ 128) × (length (k .waited) ≡ 128) → (length (b .claims) ≡ 33) × (length (b .ticks) ≡ 33) →
-      n ≤ 4294967295 → boardClaims k ≤ n → boardClaims k ≡ sumTo (bucketClaims b) 33 → boardWaited k ≡ sumTo (bucketTicks b) 33 →
+      (length (k .claims) ≡ sourceRoom) × (length (k .waited) ≡ sourceRoom) → (length (b .claims) ≡ bucketRoom) × (length (b .ticks) ≡ bucketRoom) →
+      n ≤ 4294967295 → boardClaims k ≤ n → boardClaims k ≡ sumTo (bucketClaims b) bucketRoom → boardWaited k ≡ sumTo (bucketTicks b) bucketRoom →
       Sound (withSteps (withCounts (withRequest s i r) k b) n)
   unfolding withSteps withCounts withRequest
   sound-request i r k b n below fine others counts-long buckets-long most few claims ticks = record {
@@ -254,7 +255,7 @@ module _ (s : State) (f : Sound s) where
       old j ne = unfold priority in getD-set-other (s .settings .priority) i j kept-value 0 ne
 
   -- the priorities of a state as they stand
-  as-they-stand : (i : ℕ) → i < 128 →
+  as-they-stand : (i : ℕ) → i < sourceRoom →
       (priority (s .settings) i ≤ 2 ^ s .shape .bits - 1) × (isSource (s .shape .sources) i ≡ false → priority (s .settings) i ≡ 0)
   as-they-stand i h = (f .source i h .priorities, λ e. f .source i h .absent e .priority)
 
@@ -293,10 +294,10 @@ module _ (s : State) (f : Sound s) where
         enables = unfold enableWord in k .enables;
       }
 
-  pub sound-enable : (c w v : ℕ) → So (isContext (s .shape .contexts) c) → w < 4 → Sound (withEnable s c w v)
+  pub sound-enable : (c w v : ℕ) → So (isContext (s .shape .contexts) c) → w < wordRoom → Sound (withEnable s c w v)
   unfolding withEnable
   sound-enable c w v there small = sound-settings changed
-      (f .types .priority) (length-set (s .settings .enable) (c * 4 + w) word ∙ f .types .enable) (f .types .threshold)
+      (f .types .priority) (length-set (s .settings .enable) (c * wordRoom + w) word ∙ f .types .enable) (f .types .threshold)
       (λ j h. unfold priority in as-they-stand j h)
       (λ d h. record {
         absentThreshold = unfold threshold in f .context d h .absentThreshold;
@@ -305,14 +306,14 @@ module _ (s : State) (f : Sound s) where
             ∙ f .context d h .absentEnables e x l;
         thresholds = unfold threshold in f .context d h .thresholds;
         enables = λ x j l. ⊎-elim
-            (λ (t : So (eqb (d * 4 + x) (c * 4 + w))).
-            let same : d * 4 + x ≡ c * 4 + w = eqb-true (d * 4 + x) (c * 4 + w) t in
+            (λ (t : So (eqb (d * wordRoom + x) (c * wordRoom + w))).
+            let same : d * wordRoom + x ≡ c * wordRoom + w = eqb-true (d * wordRoom + x) (c * wordRoom + w) t in
             let x-is : x ≡ w = omega arith in
             λ set. subst (λ (y : ℕ). (j < 32) × So (isSource (s .shape .sources) (y * 32 + j))) (sym x-is)
             (kept-sources (s .shape .sources) w v j (subst (λ (y : ℕ). So (bit y j)) (new d x same) set)))
             (λ t. λ set. f .context d h .enables x j l
-            (subst (λ (y : ℕ). So (bit y j)) (old d x (eqb-false (d * 4 + x) (c * 4 + w) t)) set))
-            (dichotomy (eqb (d * 4 + x) (c * 4 + w)));
+            (subst (λ (y : ℕ). So (bit y j)) (old d x (eqb-false (d * wordRoom + x) (c * wordRoom + w) t)) set))
+            (dichotomy (eqb (d * wordRoom + x) (c * wordRoom + w)));
       })
     where
       word : ℕ
@@ -321,14 +322,14 @@ module _ (s : State) (f : Sound s) where
       changed : Settings
       changed = record {
         priority = s .settings .priority;
-        enable = set (s .settings .enable) (c * 4 + w) word;
+        enable = set (s .settings .enable) (c * wordRoom + w) word;
         threshold = s .settings .threshold;
       }
 
-      new : (d x : ℕ) → d * 4 + x ≡ c * 4 + w → enableWord changed d x ≡ word
-      new d x e = unfold enableWord in ap (λ (k : ℕ). getD (set (s .settings .enable) (c * 4 + w) word) k 0) e
-          ∙ getD-set-same (s .settings .enable) (c * 4 + w) word 0
+      new : (d x : ℕ) → d * wordRoom + x ≡ c * wordRoom + w → enableWord changed d x ≡ word
+      new d x e = unfold enableWord in ap (λ (k : ℕ). getD (set (s .settings .enable) (c * wordRoom + w) word) k 0) e
+          ∙ getD-set-same (s .settings .enable) (c * wordRoom + w) word 0
           (omega (arith, f .types .enable, context-range (s .shape .contexts) c there, f .limits .contexts .1))
 
-      old : (d x : ℕ) → d * 4 + x ≢ c * 4 + w → enableWord changed d x ≡ enableWord (s .settings) d x
-      old d x ne = unfold enableWord in getD-set-other (s .settings .enable) (c * 4 + w) (d * 4 + x) word 0 ne
+      old : (d x : ℕ) → d * wordRoom + x ≢ c * wordRoom + w → enableWord changed d x ≡ enableWord (s .settings) d x
+      old d x ne = unfold enableWord in getD-set-other (s .settings .enable) (c * wordRoom + w) (d * wordRoom + x) word 0 ne

@@ -7,6 +7,7 @@ use Prim.Native.Nat.{ℕ, _+_, _-_, _≤_, _<_}
 use native.Mathlib.Omega.{arith}
 use lib.Dec.{ltb, eqb}
 use borrow.Author.Tests.{ltb-true, ltb-false, eqb-true, eqb-false, eq-eqb}
+use Rattle.limits.specs.Limits.{sourceRoom, mostEdges}
 use Rattle.laws.specs.Fold.{allOf}
 use Rattle.laws.proofs.Fold.{test-at}
 use Rattle.laws.proofs.Truth.{dichotomy, not-so, and-intro, and-left, and-right, cond-so, cond-elim}
@@ -33,7 +34,7 @@ module _ (h : Shape) (clock i prio claimed waited : ℕ) (source : So (isSource 
   Fine r = SoundSource h clock i prio claimed waited r
 
   -- a request that has just become pending
-  raised-fine : (r₀ r : Request) → Fine r₀ → r .extra ≤ 255 → (kindOf h i ≢ 2 → r .extra ≡ 0) → Fine (raised clock r)
+  raised-fine : (r₀ r : Request) → Fine r₀ → r .extra ≤ mostEdges → (kindOf h i ≢ 2 → r .extra ≡ 0) → Fine (raised clock r)
   unfolding raised isPending isIdle openAge
   raised-fine r₀ r f most counting = record {
     kind = f .kind;
@@ -75,7 +76,7 @@ module _ (h : Shape) (clock i prio claimed waited : ℕ) (source : So (isSource 
     stage = f .stage;
     start = f .start;
     startless = f .startless;
-    extra = cond-elim (λ x. x ≤ 255) (ltb (r .extra) 255) (λ t. omega (arith, ltb-true (r .extra) 255 t)) (λ _. f .extra);
+    extra = cond-elim (λ x. x ≤ mostEdges) (ltb (r .extra) mostEdges) (λ t. omega (arith, ltb-true (r .extra) mostEdges t)) (λ _. f .extra);
     counting = λ ne. absurd (ne two);
     edgeless = λ e. absurd (not-so busy e);
     level = λ _ e. absurd (not-so busy e);
@@ -183,7 +184,7 @@ repeated h clock i prio claimed waited r f =
     (λ _. refl))
     (λ _. cond-elim (λ k. k ≡ r) (not (r .line) && r .line) (λ t. absurd (not-so (not-and-self (r .line)) t)) (λ _. refl))
 
-pub repeat-level : (s : State) → Sound s → (i : ℕ) → i < 128 → lineChange s i (request (s .requests) i .line) ≡ s
+pub repeat-level : (s : State) → Sound s → (i : ℕ) → i < sourceRoom → lineChange s i (request (s .requests) i .line) ≡ s
 unfolding lineChange withRequest
 repeat-level s f i h =
     ap (λ (q : Requests). record {

@@ -10,6 +10,7 @@ use lib.Dec.{ltb, eqb}
 use lib.ListN.{length, getD, replicate, length-replicate, getD-replicate, length-append, List·getD-append}
 use lib.Seq.{getD-append-add}
 use borrow.Author.Tests.{leb-true, eqb-true, ltb-true, ltb-false}
+use Rattle.limits.specs.Limits.{sourceRoom, lastSource, contextRoom, wordRoom, enableRoom, bucketRoom}
 use Rattle.laws.specs.Bits.{bit}
 use Rattle.laws.proofs.Truth.{dichotomy, not-so, and-left, and-right}
 use Rattle.laws.proofs.Fold.{all-at, sum-zero}
@@ -33,42 +34,42 @@ module _ (n c b : ℕ) (kinds : List ℕ) (limits : WithinLimits n c b) (long : 
   h : Shape
   h = shapeOf n c b kinds
 
-  kind-of : (i : ℕ) → i < 128 → (kindOf h i ≤ 2) × (isSource (h .sources) i ≡ false → kindOf h i ≡ 0)
+  kind-of : (i : ℕ) → i < sourceRoom → (kindOf h i ≤ 2) × (isSource (h .sources) i ≡ false → kindOf h i ≡ 0)
   unfolding h kindOf shapeOf
   kind-of zero l = (omega arith, λ _. refl)
   kind-of (suc i) l = ⊎-elim
       (λ (t : So (ltb i n)).
       let inside : i < length kinds = omega (arith, ltb-true i n t) in
-      let kind-is : getD (kinds ++ replicate (127 - length kinds) 0) i 0 ≡ getD kinds i 0 = List·getD-append kinds _ 0 i inside in (
+      let kind-is : getD (kinds ++ replicate (lastSource - length kinds) 0) i 0 ≡ getD kinds i 0 = List·getD-append kinds _ 0 i inside in (
         omega (arith, kind-is, right i inside),
         λ e. absurd (not-so e (range-source n (suc i) (omega arith) (omega (arith, ltb-true i n t)))),
       ))
       (λ t.
-      let zero-is : getD (kinds ++ replicate (127 - length kinds) 0) i 0 ≡ 0 = past i l (ltb-false i n t) in
+      let zero-is : getD (kinds ++ replicate (lastSource - length kinds) 0) i 0 ≡ 0 = past i l (ltb-false i n t) in
       (omega (arith, zero-is), λ _. zero-is))
       (dichotomy (ltb i n))
     where
-      past : (i : ℕ) → suc i < 128 → n ≤ i → getD (kinds ++ replicate (127 - length kinds) 0) i 0 ≡ 0
+      past : (i : ℕ) → suc i < sourceRoom → n ≤ i → getD (kinds ++ replicate (lastSource - length kinds) 0) i 0 ≡ 0
       past i l k =
           let place : i ≡ length kinds + (i - n) = omega arith in
-          ap (λ (j : ℕ). getD (kinds ++ replicate (127 - length kinds) 0) j 0) place
-          ∙ getD-append-add kinds (replicate (127 - length kinds) 0) (i - n) 0
-          ∙ getD-replicate (127 - length kinds) (i - n) 0 0 (omega arith)
+          ap (λ (j : ℕ). getD (kinds ++ replicate (lastSource - length kinds) 0) j 0) place
+          ∙ getD-append-add kinds (replicate (lastSource - length kinds) 0) (i - n) 0
+          ∙ getD-replicate (lastSource - length kinds) (i - n) 0 0 (omega arith)
 
-  kind-length : length (h .kind) ≡ 128
+  kind-length : length (h .kind) ≡ sourceRoom
   unfolding h shapeOf
-  kind-length = omega (arith, length-append kinds (replicate (127 - length kinds) 0), length-replicate {A = ℕ} (127 - length kinds) 0, limits .sources .1)
+  kind-length = omega (arith, length-append kinds (replicate (lastSource - length kinds) 0), length-replicate {A = ℕ} (lastSource - length kinds) 0, limits .sources .1)
 
-  fresh-request : (i : ℕ) → i < 128 → request (freshIn h .requests) i ≡ zeroRequest
+  fresh-request : (i : ℕ) → i < sourceRoom → request (freshIn h .requests) i ≡ zeroRequest
   unfolding request freshIn zeroRequest
   fresh-request i l = λ k. record {
-    stage = getD-replicate 128 i 0 0 l k;
-    line = getD-replicate 128 i false false l k;
-    extra = getD-replicate 128 i 0 0 l k;
-    start = getD-replicate 128 i 0 0 l k;
+    stage = getD-replicate sourceRoom i 0 0 l k;
+    line = getD-replicate sourceRoom i false false l k;
+    extra = getD-replicate sourceRoom i 0 0 l k;
+    start = getD-replicate sourceRoom i 0 0 l k;
   }
 
-  zero-fine : (i prio claimed waited : ℕ) → i < 128 → prio ≡ 0 → claimed ≡ 0 → waited ≡ 0 →
+  zero-fine : (i prio claimed waited : ℕ) → i < sourceRoom → prio ≡ 0 → claimed ≡ 0 → waited ≡ 0 →
       SoundSource h 0 i prio claimed waited zeroRequest
   unfolding zeroRequest isPending isIdle openAge
   zero-fine i prio claimed waited l p c₀ w₀ = record {
@@ -94,14 +95,14 @@ module _ (n c b : ℕ) (kinds : List ℕ) (limits : WithinLimits n c b) (long : 
     waits = omega arith;
   }
 
-  zero-context : (d : ℕ) → d < 8 → SoundContext h (freshIn h .settings) d
+  zero-context : (d : ℕ) → d < contextRoom → SoundContext h (freshIn h .settings) d
   unfolding freshIn threshold enableWord
   zero-context d l = record {
-    absentThreshold = λ _. getD-replicate 8 d 0 0 l;
-    absentEnables = λ _ w k. getD-replicate 32 (d * 4 + w) 0 0 (omega arith);
-    thresholds = omega (arith, getD-replicate {A = ℕ} 8 d 0 0 l);
+    absentThreshold = λ _. getD-replicate contextRoom d 0 0 l;
+    absentEnables = λ _ w k. getD-replicate enableRoom (d * wordRoom + w) 0 0 (omega arith);
+    thresholds = omega (arith, getD-replicate {A = ℕ} contextRoom d 0 0 l);
     enables = λ w j k t. absurd (not-so (bit-above 0 0 j (omega arith) (omega arith))
-        (subst (λ (x : ℕ). So (bit x j)) (getD-replicate 32 (d * 4 + w) 0 0 (omega arith)) t));
+        (subst (λ (x : ℕ). So (bit x j)) (getD-replicate enableRoom (d * wordRoom + w) 0 0 (omega arith)) t));
   }
 
   fresh-sound : Sound (freshIn h)
@@ -109,19 +110,19 @@ module _ (n c b : ℕ) (kinds : List ℕ) (limits : WithinLimits n c b) (long : 
   fresh-sound = record {
     types = record {
       kind = kind-length;
-      priority = length-replicate {A = ℕ} 128 0;
-      enable = length-replicate {A = ℕ} 32 0;
-      threshold = length-replicate {A = ℕ} 8 0;
+      priority = length-replicate {A = ℕ} sourceRoom 0;
+      enable = length-replicate {A = ℕ} enableRoom 0;
+      threshold = length-replicate {A = ℕ} contextRoom 0;
       requests = record {
-        stage = length-replicate {A = ℕ} 128 0;
-        line = length-replicate {A = Bool} 128 false;
-        extra = length-replicate {A = ℕ} 128 0;
-        start = length-replicate {A = ℕ} 128 0;
+        stage = length-replicate {A = ℕ} sourceRoom 0;
+        line = length-replicate {A = Bool} sourceRoom false;
+        extra = length-replicate {A = ℕ} sourceRoom 0;
+        start = length-replicate {A = ℕ} sourceRoom 0;
       };
-      claims = length-replicate {A = ℕ} 128 0;
-      waited = length-replicate {A = ℕ} 128 0;
-      bucketClaims = length-replicate {A = ℕ} 33 0;
-      bucketTicks = length-replicate {A = ℕ} 33 0;
+      claims = length-replicate {A = ℕ} sourceRoom 0;
+      waited = length-replicate {A = ℕ} sourceRoom 0;
+      bucketClaims = length-replicate {A = ℕ} bucketRoom 0;
+      bucketTicks = length-replicate {A = ℕ} bucketRoom 0;
       clock = omega arith;
       steps = omega arith;
     };
@@ -129,19 +130,19 @@ module _ (n c b : ℕ) (kinds : List ℕ) (limits : WithinLimits n c b) (long : 
     source = λ i l. subst (SoundSource h 0 i (priority (freshIn h .settings) i) (sourceClaims (freshIn h .counts) i)
         (sourceWaited (freshIn h .counts) i)) (sym (fresh-request i l))
         (zero-fine i (priority (freshIn h .settings) i) (sourceClaims (freshIn h .counts) i) (sourceWaited (freshIn h .counts) i) l
-        (unfold priority in getD-replicate 128 i 0 0 l) (unfold sourceClaims in getD-replicate 128 i 0 0 l)
-        (unfold sourceWaited in getD-replicate 128 i 0 0 l));
+        (unfold priority in getD-replicate sourceRoom i 0 0 l) (unfold sourceClaims in getD-replicate sourceRoom i 0 0 l)
+        (unfold sourceWaited in getD-replicate sourceRoom i 0 0 l));
     context = zero-context;
     claims = omega (arith, no-claims);
-    claimsBooked = no-claims ∙ sym (sum-zero (bucketClaims (freshIn h .buckets)) 33 (λ k l. unfold bucketClaims in getD-replicate 33 k 0 0 l));
-    ticksBooked = no-ticks ∙ sym (sum-zero (bucketTicks (freshIn h .buckets)) 33 (λ k l. unfold bucketTicks in getD-replicate 33 k 0 0 l));
+    claimsBooked = no-claims ∙ sym (sum-zero (bucketClaims (freshIn h .buckets)) bucketRoom (λ k l. unfold bucketClaims in getD-replicate bucketRoom k 0 0 l));
+    ticksBooked = no-ticks ∙ sym (sum-zero (bucketTicks (freshIn h .buckets)) bucketRoom (λ k l. unfold bucketTicks in getD-replicate bucketRoom k 0 0 l));
   }
     where
       no-claims : boardClaims (freshIn h .counts) ≡ 0
-      no-claims = unfold boardClaims sourceClaims in sum-zero _ 128 (λ i l. getD-replicate 128 i 0 0 l)
+      no-claims = unfold boardClaims sourceClaims in sum-zero _ sourceRoom (λ i l. getD-replicate sourceRoom i 0 0 l)
 
       no-ticks : boardWaited (freshIn h .counts) ≡ 0
-      no-ticks = unfold boardWaited sourceWaited in sum-zero _ 128 (λ i l. getD-replicate 128 i 0 0 l)
+      no-ticks = unfold boardWaited sourceWaited in sum-zero _ sourceRoom (λ i l. getD-replicate sourceRoom i 0 0 l)
 
 -- the cases of making
 

@@ -9,6 +9,7 @@ use native.Mathlib.Omega.{arith}
 use lib.Dec.{ltb, eqb}
 use lib.Seq.{getD-set-same}
 use borrow.Author.Tests.{leb-true, ltb-true, ltb-false, lt-ltb, le-ltb, eqb-true}
+use Rattle.limits.specs.Limits.{sourceRoom, lastSource, contextRoom, wordRoom}
 use Rattle.laws.specs.Bits.{bit, packed}
 use Rattle.laws.proofs.Truth.{dichotomy, not-so, and-intro, and-left, and-right, cond-so, cond-not}
 use Rattle.laws.proofs.Bits.{bit-packed}
@@ -32,7 +33,7 @@ word-range n w t = leb-true w (n / 32) t
 
 -- few enough sources and contexts that the regions of the map keep apart
 abbrev pub Wide : ℕ → ℕ → Type 0
-Wide n m = (n ≤ 127) × (m ≤ 8)
+Wide n m = (n ≤ lastSource) × (m ≤ contextRoom)
 
 -- the four regions of the map
 module _ (n m off : ℕ) where
@@ -170,23 +171,23 @@ kept-source most v n =
 
 -- what was written reads back: a priority and a threshold mod 2^b, an enable word masked to 1..N
 module _ (s : State) (types : Typed s) where
-  pub priority-reads : (i v : ℕ) → i < 128 → readOf (afterWrite s (Priority i) v) (Priority i) ≡ v % 2 ^ s .shape .bits
+  pub priority-reads : (i v : ℕ) → i < sourceRoom → readOf (afterWrite s (Priority i) v) (Priority i) ≡ v % 2 ^ s .shape .bits
   unfolding readOf afterWrite withPriority withSettings priority
   priority-reads i v h =
       getD-set-same (s .settings .priority) i (v % 2 ^ s .shape .bits) 0 (omega (arith, types .priority))
 
-  pub threshold-reads : (c v : ℕ) → c < 8 → readOf (afterWrite s (Threshold c) v) (Threshold c) ≡ v % 2 ^ s .shape .bits
+  pub threshold-reads : (c v : ℕ) → c < contextRoom → readOf (afterWrite s (Threshold c) v) (Threshold c) ≡ v % 2 ^ s .shape .bits
   unfolding readOf afterWrite withThreshold withSettings threshold
   threshold-reads c v h =
       getD-set-same (s .settings .threshold) c (v % 2 ^ s .shape .bits) 0 (omega (arith, types .threshold))
 
-  pub enable-reads : (c w v : ℕ) → c < 8 → w < 4 → readOf (afterWrite s (Enable c w) v) (Enable c w) ≡ kept (s .shape .sources) w v
+  pub enable-reads : (c w v : ℕ) → c < contextRoom → w < wordRoom → readOf (afterWrite s (Enable c w) v) (Enable c w) ≡ kept (s .shape .sources) w v
   unfolding readOf afterWrite withEnable withSettings enableWord
   enable-reads c w v h k =
-      getD-set-same (s .settings .enable) (c * 4 + w) (kept (s .shape .sources) w v) 0 (omega (arith, types .enable))
+      getD-set-same (s .settings .enable) (c * wordRoom + w) (kept (s .shape .sources) w v) 0 (omega (arith, types .enable))
 
   -- and so a source is enabled exactly if its bit was written, for each source of the word
-  pub enable-written : (c n v : ℕ) → c < 8 → n < 128 →
+  pub enable-written : (c n v : ℕ) → c < contextRoom → n < sourceRoom →
       enabled (afterWrite s (Enable c (n / 32)) v .settings) c n ≡ (bit v (n % 32) && isSource (s .shape .sources) n)
   unfolding enabled readOf
   enable-written c n v h k =

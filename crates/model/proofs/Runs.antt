@@ -7,6 +7,7 @@ use Prim.Native.Nat.{ℕ, _<_}
 use native.Mathlib.Omega.{arith}
 use lib.Dec.{eqb}
 use lib.ListN.{getD-replicate}
+use Rattle.limits.specs.Limits.{sourceRoom, bucketRoom}
 use Rattle.laws.proofs.Truth.{not-so, cond-not}
 use Rattle.laws.proofs.Fold.{sum-zero}
 use Rattle.model.specs.declared.State.{State}
@@ -25,24 +26,24 @@ fresh-logged : (h : Shape) → Logged (freshIn h) (past (freshIn h) [])
 unfolding freshIn past claimsIn ticksIn lastIsClaim
 fresh-logged h = record {
   at = λ i l. record {
-    started = λ _. unfold request in getD-replicate 128 i 0 0 l;
-    claims = unfold sourceClaims in getD-replicate 128 i 0 0 l;
-    ticks = unfold sourceWaited in getD-replicate 128 i 0 0 l;
+    started = λ _. unfold request in getD-replicate sourceRoom i 0 0 l;
+    claims = unfold sourceClaims in getD-replicate sourceRoom i 0 0 l;
+    ticks = unfold sourceWaited in getD-replicate sourceRoom i 0 0 l;
     rises = omega (arith, cond-not {A = ℕ} {b = isPending (request (freshIn h .requests) i)} 1 0 (idle i l));
     serving = λ t. absurd (not-so refl t);
   };
-  bucket = λ k l. unfold bucketClaims bucketTicks in (getD-replicate 33 k 0 0 l, getD-replicate 33 k 0 0 l);
+  bucket = λ k l. unfold bucketClaims bucketTicks in (getD-replicate bucketRoom k 0 0 l, getD-replicate bucketRoom k 0 0 l);
   separate = tt;
-  claims = unfold boardClaims sourceClaims in sum-zero _ 128 (λ i l. getD-replicate 128 i 0 0 l);
-  waited = unfold boardWaited sourceWaited in sum-zero _ 128 (λ i l. getD-replicate 128 i 0 0 l);
+  claims = unfold boardClaims sourceClaims in sum-zero _ sourceRoom (λ i l. getD-replicate sourceRoom i 0 0 l);
+  waited = unfold boardWaited sourceWaited in sum-zero _ sourceRoom (λ i l. getD-replicate sourceRoom i 0 0 l);
   area = omega (arith, ageless);
 }
   where
-    idle : (i : ℕ) → i < 128 → isPending (request (freshIn h .requests) i) ≡ false
-    idle i l = unfold isPending request freshIn in ap (λ (x : ℕ). eqb x 1) (getD-replicate 128 i 0 0 l)
+    idle : (i : ℕ) → i < sourceRoom → isPending (request (freshIn h .requests) i) ≡ false
+    idle i l = unfold isPending request freshIn in ap (λ (x : ℕ). eqb x 1) (getD-replicate sourceRoom i 0 0 l)
 
     ageless : boardOpen (freshIn h .clock) (freshIn h .requests) ≡ 0
-    ageless = unfold boardOpen openAge in sum-zero _ 128 (λ i l. cond-not _ _ (idle i l))
+    ageless = unfold boardOpen openAge in sum-zero _ sourceRoom (λ i l. cond-not _ _ (idle i l))
 
 module _ (h : Shape) (sound : Sound (freshIn h)) where
   run-sound : (calls : List Call) → Sound (run (freshIn h) calls)

@@ -6,6 +6,7 @@ use mathlib.Core.Logic.{_⊎_, ⊎-elim, _↔_}
 use Prim.Native.Nat.{ℕ, _+_, _-_, _*_, _≤_, _<_}
 use lib.Dec.{ltb, eqb}
 use borrow.Author.Tests.{ltb-true, ltb-false, lt-ltb, le-ltb, leb-true, eqb-true, le-leb, eq-eqb, ne-eqb, eqb-false, not-false}
+use Rattle.limits.specs.Limits.{sourceRoom, contextRoom, wordRoom}
 use Rattle.laws.specs.Fold.{allOf}
 use Rattle.laws.specs.Bits.{bit}
 use Rattle.laws.proofs.Truth.{dichotomy, not-so, so-not, fails, same-test, and-intro, and-left, and-right}
@@ -165,26 +166,26 @@ context-facts : (h : Shape) (g : Settings) (c : ℕ) → So (soundContext h g c)
 unfolding soundContext
 context-facts h g c t = record {
   absentThreshold = λ e. eqb-true _ _ (or-else _ _ (test-at _ t 0) e);
-  absentEnables = λ e w k. eqb-true _ _ (all-at _ 4 (or-else _ _ (test-at _ t 1) e) w k);
+  absentEnables = λ e w k. eqb-true _ _ (all-at _ wordRoom (or-else _ _ (test-at _ t 1) e) w k);
   thresholds = leb-true _ _ (test-at _ t 2);
-  enables = λ w j k. word-facts (h .sources) w (enableWord g c w) (eqb-true _ _ (all-at _ 4 (test-at _ t 3) w k)) j;
+  enables = λ w j k. word-facts (h .sources) w (enableWord g c w) (eqb-true _ _ (all-at _ wordRoom (test-at _ t 3) w k)) j;
 }
 
 context-test : (h : Shape) (g : Settings) (c : ℕ) → SoundContext h g c → So (soundContext h g c)
 unfolding soundContext allOf
 context-test h g c f =
     and-intro (else-or _ _ (λ e. eq-eqb _ _ (f .absentThreshold e)))
-    (and-intro (else-or _ _ (λ e. all-of _ 4 (λ w k. eq-eqb _ _ (f .absentEnables e w k))))
+    (and-intro (else-or _ _ (λ e. all-of _ wordRoom (λ w k. eq-eqb _ _ (f .absentEnables e w k))))
     (and-intro (le-leb _ _ (f .thresholds))
-    (and-intro (all-of _ 4 (λ w k. eq-eqb _ _ (word-test (h .sources) w (enableWord g c w) (λ j. f .enables w j k)))) refl)))
+    (and-intro (all-of _ wordRoom (λ w k. eq-eqb _ _ (word-test (h .sources) w (enableWord g c w) (λ j. f .enables w j k)))) refl)))
 
 pub sound-facts : (s : State) → So (sound s) → Sound s
 unfolding sound
 sound-facts s t = record {
   types = typed-facts s (test-at _ t 0);
   limits = limits-facts _ _ _ (test-at _ t 1);
-  source = λ i k. source-facts s i (all-at _ 128 (test-at _ t 2) i k);
-  context = λ c k. context-facts _ _ c (all-at _ 8 (test-at _ t 3) c k);
+  source = λ i k. source-facts s i (all-at _ sourceRoom (test-at _ t 2) i k);
+  context = λ c k. context-facts _ _ c (all-at _ contextRoom (test-at _ t 3) c k);
   claims = leb-true _ _ (test-at _ t 4);
   claimsBooked = eqb-true _ _ (test-at _ t 5);
   ticksBooked = eqb-true _ _ (test-at _ t 6);
@@ -195,8 +196,8 @@ unfolding sound allOf
 sound-test s f =
     and-intro (typed-test s (f .types))
     (and-intro (limits-test _ _ _ (f .limits))
-    (and-intro (all-of _ 128 (λ i k. source-test s i (f .source i k)))
-    (and-intro (all-of _ 8 (λ c k. context-test _ _ c (f .context c k)))
+    (and-intro (all-of _ sourceRoom (λ i k. source-test s i (f .source i k)))
+    (and-intro (all-of _ contextRoom (λ c k. context-test _ _ c (f .context c k)))
     (and-intro (le-leb _ _ (f .claims))
     (and-intro (eq-eqb _ _ (f .claimsBooked)) (and-intro (eq-eqb _ _ (f .ticksBooked)) refl))))))
 

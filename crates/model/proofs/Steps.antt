@@ -8,6 +8,7 @@ use native.Mathlib.Omega.{arith}
 use lib.Dec.{eqb}
 use lib.ListN.{length, getD, length-set}
 use borrow.Author.Tests.{eqb-false}
+use Rattle.limits.specs.Limits.{sourceRoom, bucketRoom}
 use Rattle.laws.specs.Fold.{sumTo}
 use Rattle.laws.proofs.Lists.{list-sum}
 use Rattle.laws.proofs.Truth.{cond-elim}
@@ -29,17 +30,17 @@ use Rattle.model.proofs.Life.{line-kept, served-kept, takes-effect-iff,
 use Rattle.model.proofs.Change.{sound-steps, sound-clock, sound-request, sound-priority, sound-threshold, sound-enable}
 
 -- a wait booked with its bucket adds as much to the sums over all buckets
-booked-sums : (b : Buckets) (w : ℕ) → bucketOf w < 33 → length (b .claims) ≡ 33 → length (b .ticks) ≡ 33 →
-    (sumTo (bucketClaims (booked b w)) 33 ≡ sumTo (bucketClaims b) 33 + 1)
-    × (sumTo (bucketTicks (booked b w)) 33 ≡ sumTo (bucketTicks b) 33 + w)
+booked-sums : (b : Buckets) (w : ℕ) → bucketOf w < bucketRoom → length (b .claims) ≡ bucketRoom → length (b .ticks) ≡ bucketRoom →
+    (sumTo (bucketClaims (booked b w)) bucketRoom ≡ sumTo (bucketClaims b) bucketRoom + 1)
+    × (sumTo (bucketTicks (booked b w)) bucketRoom ≡ sumTo (bucketTicks b) bucketRoom + w)
 unfolding booked bucketClaims bucketTicks
 booked-sums b w h c t = (
-  omega (arith, list-sum (b .claims) 33 (bucketOf w) (getD (b .claims) (bucketOf w) 0 + 1) h (omega arith)),
-  omega (arith, list-sum (b .ticks) 33 (bucketOf w) (getD (b .ticks) (bucketOf w) 0 + w) h (omega arith)),
+  omega (arith, list-sum (b .claims) bucketRoom (bucketOf w) (getD (b .claims) (bucketOf w) 0 + 1) h (omega arith)),
+  omega (arith, list-sum (b .ticks) bucketRoom (bucketOf w) (getD (b .ticks) (bucketOf w) 0 + w) h (omega arith)),
 )
 
 module _ (s : State) (f : Sound s) (room : s .steps < 4294967295) where
-  below : (i : ℕ) → So (isSource (s .shape .sources) i) → i < 128
+  below : (i : ℕ) → So (isSource (s .shape .sources) i) → i < sourceRoom
   below i t = omega (arith, source-range (s .shape .sources) i t .1, f .limits .sources .1)
 
   -- a change that books nothing, counted as a step
@@ -104,8 +105,8 @@ module _ (s : State) (f : Sound s) (room : s .steps < 4294967295) where
           × (boardWaited (counted (s .counts) i w) ≡ boardWaited (s .counts) + w)
       sums = counted-sums (s .counts) i w (below i source) (f .types .claims) (f .types .waited)
 
-      bucket-sums : (sumTo (bucketClaims (booked (s .buckets) w)) 33 ≡ sumTo (bucketClaims (s .buckets)) 33 + 1)
-          × (sumTo (bucketTicks (booked (s .buckets) w)) 33 ≡ sumTo (bucketTicks (s .buckets)) 33 + w)
+      bucket-sums : (sumTo (bucketClaims (booked (s .buckets) w)) bucketRoom ≡ sumTo (bucketClaims (s .buckets)) bucketRoom + 1)
+          × (sumTo (bucketTicks (booked (s .buckets) w)) bucketRoom ≡ sumTo (bucketTicks (s .buckets)) bucketRoom + w)
       bucket-sums = booked-sums (s .buckets) w
           (omega (arith, bucket-holds w (unfold wait in omega (arith, f .types .clock)) .exists)) (f .types .bucketClaims) (f .types .bucketTicks)
 

@@ -6,6 +6,7 @@ use Prim.Native.Nat.{ℕ, _+_, _<_}
 use native.Mathlib.Omega.{arith}
 use lib.ListN.{length, getD}
 use lib.Seq.{getD-set-same, getD-set-other}
+use Rattle.limits.specs.Limits.{sourceRoom}
 use Rattle.laws.proofs.Lists.{list-sum}
 use Rattle.model.specs.declared.Counts.{Counts}
 use Rattle.model.specs.Waits.{counted, sourceClaims, sourceWaited, boardClaims, boardWaited}
@@ -21,10 +22,10 @@ module _ (k : Counts) (i w : ℕ) where
   unfolding counted sourceClaims sourceWaited
   counted-other j ne = (getD-set-other (k .claims) i j _ 0 ne, getD-set-other (k .waited) i j _ 0 ne)
 
-  pub counted-sums : i < 128 → length (k .claims) ≡ 128 → length (k .waited) ≡ 128 →
+  pub counted-sums : i < sourceRoom → length (k .claims) ≡ sourceRoom → length (k .waited) ≡ sourceRoom →
       (boardClaims (counted k i w) ≡ boardClaims k + 1) × (boardWaited (counted k i w) ≡ boardWaited k + w)
   unfolding counted boardClaims boardWaited sourceClaims sourceWaited
   counted-sums h a b = (
-    omega (arith, list-sum (k .claims) 128 i (getD (k .claims) i 0 + 1) h (omega arith)),
-    omega (arith, list-sum (k .waited) 128 i (getD (k .waited) i 0 + w) h (omega arith)),
+    omega (arith, list-sum (k .claims) sourceRoom i (getD (k .claims) i 0 + 1) h (omega arith)),
+    omega (arith, list-sum (k .waited) sourceRoom i (getD (k .waited) i 0 + w) h (omega arith)),
   )

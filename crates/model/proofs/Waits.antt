@@ -8,33 +8,34 @@ use native.Mathlib.Omega.{arith}
 use lib.Dec.{leb, ltb, eqb}
 use lib.Pow.{pow-pos, pow-mono}
 use borrow.Author.Tests.{leb-true, le-leb, ltb-true, ltb-false, eqb-true}
+use Rattle.limits.specs.Limits.{bucketRoom, lastBucket}
 use Rattle.laws.specs.Fold.{allTo, First}
 use Rattle.laws.proofs.Truth.{dichotomy}
 use Rattle.laws.proofs.Fold.{all-at, first-is, first-once}
 use Rattle.model.specs.Waits.{upperEnds, upperEnd, lowerEnd, Holds, bucketOf}
 
 -- one test over the whole table
-table : So (allTo (λ k. eqb (upperEnd k) (2 ^ k - 1)) 33)
+table : So (allTo (λ k. eqb (upperEnd k) (2 ^ k - 1)) bucketRoom)
 unfolding allTo upperEnd upperEnds
 table = refl
 
 -- the upper end of bucket k is 2^k - 1
-pub upper-rule : (k : ℕ) → k < 33 → upperEnd k ≡ 2 ^ k - 1
-upper-rule k h = eqb-true (upperEnd k) (2 ^ k - 1) (all-at (λ k. eqb (upperEnd k) (2 ^ k - 1)) 33 table k h)
+pub upper-rule : (k : ℕ) → k < bucketRoom → upperEnd k ≡ 2 ^ k - 1
+upper-rule k h = eqb-true (upperEnd k) (2 ^ k - 1) (all-at (λ k. eqb (upperEnd k) (2 ^ k - 1)) bucketRoom table k h)
 
 module _ (w : ℕ) where
   test : ℕ → Bool
   test k = leb w (upperEnd k)
 
-  test-is : (k : ℕ) → k < 33 → So (test k) → w ≤ 2 ^ k - 1
+  test-is : (k : ℕ) → k < bucketRoom → So (test k) → w ≤ 2 ^ k - 1
   unfolding test
   test-is k h t = subst (λ (e : ℕ). w ≤ e) (upper-rule k h) (leb-true w (upperEnd k) t)
 
-  is-test : (k : ℕ) → k < 33 → w ≤ 2 ^ k - 1 → So (test k)
+  is-test : (k : ℕ) → k < bucketRoom → w ≤ 2 ^ k - 1 → So (test k)
   unfolding test
   is-test k h l = le-leb w (upperEnd k) (subst (λ (e : ℕ). w ≤ e) (sym (upper-rule k h)) l)
 
-  lower-of : (k : ℕ) → k < 33 → First test 33 k → lowerEnd k ≤ w
+  lower-of : (k : ℕ) → k < bucketRoom → First test bucketRoom k → lowerEnd k ≤ w
   unfolding lowerEnd
   lower-of zero h f = omega arith
   lower-of (suc k) h f = ⊎-elim
@@ -47,16 +48,16 @@ module _ (w : ℕ) where
   below-lower j zero h l = absurd (omega arith)
   below-lower j (suc k) h l = omega (arith, pow-mono {i = j} {j = k} (omega arith))
 
-  first-holds : w ≤ 4294967295 → (k : ℕ) → First test 33 k → Holds k w
+  first-holds : w ≤ 4294967295 → (k : ℕ) → First test bucketRoom k → Holds k w
   first-holds most k f = record { exists = omega (arith, below); lower = lower-of k below f; upper = test-is k below (f .found below) }
     where
-      below : k < 33
+      below : k < bucketRoom
       below = ⊎-elim
-          (λ (t : So (ltb k 33)). ltb-true k 33 t)
-          (λ t. absurd (f .before 32 (omega (arith, ltb-false k 33 t)) (is-test 32 (omega arith) most)))
-          (dichotomy (ltb k 33))
+          (λ (t : So (ltb k bucketRoom)). ltb-true k bucketRoom t)
+          (λ t. absurd (f .before lastBucket (omega (arith, ltb-false k bucketRoom t)) (is-test lastBucket (omega arith) most)))
+          (dichotomy (ltb k bucketRoom))
 
-  holds-first : (k : ℕ) → Holds k w → First test 33 k
+  holds-first : (k : ℕ) → Holds k w → First test bucketRoom k
   holds-first k h = record {
     within = omega (arith, h .exists);
     before = λ j l t. absurd (omega (arith, test-is j (omega (arith, h .exists)) t, below-lower j k l (h .lower), pow-pos j));
@@ -67,20 +68,20 @@ module _ (w : ℕ) where
   pub bucket-iff : w ≤ 4294967295 → (k : ℕ) → (bucketOf w ≡ k) ↔ Holds k w
   unfolding bucketOf test
   bucket-iff most k = (
-    (λ e. first-holds most k (subst (First test 33) e (first-is test 33))),
-    (λ h. first-once test 33 (first-is test 33) (holds-first k h)),
+    (λ e. first-holds most k (subst (First test bucketRoom) e (first-is test bucketRoom))),
+    (λ h. first-once test bucketRoom (first-is test bucketRoom) (holds-first k h)),
   )
 
   pub bucket-holds : w ≤ 4294967295 → Holds (bucketOf w) w
   bucket-holds most = bucket-iff most (bucketOf w) .0 refl
 
   -- what a search of the table finds: the first upper end that is not passed
-  pub bucket-found : (k : ℕ) → k < 33 → ((j : ℕ) → j < k → upperEnd j < w) → w ≤ upperEnd k → k ≡ bucketOf w
+  pub bucket-found : (k : ℕ) → k < bucketRoom → ((j : ℕ) → j < k → upperEnd j < w) → w ≤ upperEnd k → k ≡ bucketOf w
   unfolding bucketOf test
-  bucket-found k h passed here = first-once test 33
+  bucket-found k h passed here = first-once test bucketRoom
       (record {
         within = omega arith;
         before = λ j l t. absurd (omega (arith, passed j l, leb-true w (upperEnd j) t));
         found = λ _. le-leb w (upperEnd k) here;
       })
-      (first-is test 33)
+      (first-is test bucketRoom)

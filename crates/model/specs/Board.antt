@@ -5,6 +5,7 @@ use mathlib.Core.List.{List, [], _∷_, _++_}
 use Prim.Native.Nat.{ℕ, _+_, _-_, _*_, _/_, _%_}
 use lib.Dec.{leb, ltb, eqb}
 use lib.ListN.{length, getD, set, replicate}
+use Rattle.limits.specs.Limits.{sourceRoom, lastSource, contextRoom, wordRoom, enableRoom, bucketRoom, mostBits}
 use Rattle.laws.specs.Fold.{allTo, allOf}
 use Rattle.laws.specs.Bits.{bit}
 use Rattle.model.specs.declared.Shape.{Shape}
@@ -17,7 +18,7 @@ use Rattle.model.specs.declared.State.{State}
 
 -- "A shape is: N sources (1 to 127), C contexts (1 to 8), b priority bits (1 to 5), .."
 unfoldable pub withinLimits : ℕ → ℕ → ℕ → Bool
-withinLimits n c b = allOf (leb 1 n ∷ leb n 127 ∷ leb 1 c ∷ leb c 8 ∷ leb 1 b ∷ leb b 5 ∷ [])
+withinLimits n c b = allOf (leb 1 n ∷ leb n lastSource ∷ leb 1 c ∷ leb c contextRoom ∷ leb 1 b ∷ leb b mostBits ∷ [])
 
 -- ".. and one kind byte for each source 1..N: 0 level, 1 edge that drops extra edges, 2 edge that counts them"
 unfoldable pub kindsFor : ℕ → List ℕ → Bool
@@ -38,22 +39,22 @@ kindOf h i = getD (h .kind) i 0
 
 -- "The state has room for 128 sources, number 0 included, all of it zero when fresh except the shape."
 unfoldable pub zeroShape : Shape
-zeroShape = record { sources = 0; contexts = 0; bits = 0; kind = replicate 128 0 }
+zeroShape = record { sources = 0; contexts = 0; bits = 0; kind = replicate sourceRoom 0 }
 
 unfoldable pub freshIn : Shape → State
 freshIn h = record {
   shape = h;
   clock = 0;
   steps = 0;
-  settings = record { priority = replicate 128 0; enable = replicate 32 0; threshold = replicate 8 0 };
+  settings = record { priority = replicate sourceRoom 0; enable = replicate enableRoom 0; threshold = replicate contextRoom 0 };
   requests = record {
-    stage = replicate 128 0;
-    line = replicate 128 false;
-    extra = replicate 128 0;
-    start = replicate 128 0;
+    stage = replicate sourceRoom 0;
+    line = replicate sourceRoom false;
+    extra = replicate sourceRoom 0;
+    start = replicate sourceRoom 0;
   };
-  counts = record { claims = replicate 128 0; waited = replicate 128 0 };
-  buckets = record { claims = replicate 33 0; ticks = replicate 33 0 };
+  counts = record { claims = replicate sourceRoom 0; waited = replicate sourceRoom 0 };
+  buckets = record { claims = replicate bucketRoom 0; ticks = replicate bucketRoom 0 };
 }
 
 unfoldable pub zeroState : State
@@ -62,7 +63,7 @@ zeroState = freshIn zeroShape
 
 -- the shape of the numbers and kind bytes that a caller hands over: kind byte i is that of source i + 1
 unfoldable pub shapeOf : ℕ → ℕ → ℕ → List ℕ → Shape
-shapeOf n c b kinds = record { sources = n; contexts = c; bits = b; kind = 0 ∷ (kinds ++ replicate (127 - length kinds) 0) }
+shapeOf n c b kinds = record { sources = n; contexts = c; bits = b; kind = 0 ∷ (kinds ++ replicate (lastSource - length kinds) 0) }
 
 -- one source's request, read out of the state and put back
 
@@ -91,7 +92,7 @@ unfoldable pub threshold : Settings → ℕ → ℕ
 threshold g c = getD (g .threshold) c 0
 
 unfoldable pub enableWord : Settings → ℕ → ℕ → ℕ
-enableWord g c w = getD (g .enable) (c * 4 + w) 0
+enableWord g c w = getD (g .enable) (c * wordRoom + w) 0
 
 -- "Source n is bit n mod 32 of word n / 32."
 unfoldable pub enabled : Settings → ℕ → ℕ → Bool

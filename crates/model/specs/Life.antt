@@ -6,6 +6,7 @@ use mathlib.Core.Logic.{_↔_, _≢_}
 use mathlib.Core.List.{[], _∷_}
 use Prim.Native.Nat.{ℕ, zero, suc, _+_, _-_, _≤_, _<_}
 use lib.Dec.{leb, ltb, eqb}
+use Rattle.limits.specs.Limits.{mostEdges}
 use Rattle.laws.specs.Fold.{allOf, anyTo, best}
 use Rattle.model.specs.declared.State.{State}
 use Rattle.model.specs.declared.Request.{Request}
@@ -25,7 +26,7 @@ unfoldable pub edgeCounted : Request → Request
 edgeCounted r = record {
   stage = r .stage;
   line = r .line;
-  extra = cond (ltb (r .extra) 255) (r .extra + 1) (r .extra);
+  extra = cond (ltb (r .extra) mostEdges) (r .extra + 1) (r .extra);
   start = r .start;
 }
 

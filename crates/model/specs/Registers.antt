@@ -5,6 +5,7 @@ use mathlib.Core.Bool.{cond, _&&_, So}
 use Prim.Native.Nat.{ℕ, _+_, _-_, _*_, _/_, _%_, _^_}
 use lib.Dec.{ltb, eqb}
 use lib.ListN.{set}
+use Rattle.limits.specs.Limits.{wordRoom}
 use Rattle.laws.specs.Bits.{bit, packed}
 use Rattle.model.specs.declared.State.{State}
 use Rattle.model.specs.declared.Register.{Register}
@@ -79,7 +80,7 @@ withPriority s i v = withSettings s (record {
 unfoldable pub withEnable : State → ℕ → ℕ → ℕ → State
 withEnable s c w v = withSettings s (record {
   priority = s .settings .priority;
-  enable = set (s .settings .enable) (c * 4 + w) (kept (s .shape .sources) w v);
+  enable = set (s .settings .enable) (c * wordRoom + w) (kept (s .shape .sources) w v);
   threshold = s .settings .threshold;
 })
 

@@ -7,6 +7,7 @@ use mathlib.Core.List.{List, [], _∷_, _++_}
 use Prim.Native.Nat.{ℕ, _+_, _-_, _*_, _<_}
 use lib.Dec.{eqb}
 use lib.ListN.{getD}
+use Rattle.limits.specs.Limits.{sourceRoom, bucketRoom}
 use Rattle.laws.specs.Fold.{sumTo}
 use Rattle.model.specs.declared.State.{State}
 use Rattle.model.specs.declared.Register.{Register}
@@ -29,7 +30,7 @@ unfoldable pub bitOf : State → ℕ → Bool
 bitOf s i = isPending (request (s .requests) i)
 
 unfoldable pub bitsSet : State → ℕ
-bitsSet s = sumTo (λ i. cond (bitOf s i) 1 0) 128
+bitsSet s = sumTo (λ i. cond (bitOf s i) 1 0) sourceRoom
 
 -- what happens in a run: a claim that gave a source, with its wait, and a completion that took effect
 pub data Event : Type 0 where
@@ -138,19 +139,19 @@ Separate (finished i ∷ es) = Separate es
 
 -- the ages of the requests still pending: the clock now less their last rise
 unfoldable pub agesOpen : State → Past → ℕ
-agesOpen s p = sumTo (λ i. cond (bitOf s i) (s .clock - p .since i) 0) 128
+agesOpen s p = sumTo (λ i. cond (bitOf s i) (s .clock - p .since i) 0) sourceRoom
 
 -- the account
 pub record Accounted (s : State) (p : Past) : Type 0 where
   -- "The total equals the ticks waited by all requests claimed so far plus the ages of those still pending"
   pub area : p .area ≡ ticksIn every (p .events) + agesOpen s p
   -- "each source and each bucket holds the number and the ticks of exactly the claims that belong to it"
-  pub sourceClaims : (i : ℕ) → i < 128 → sourceClaims (s .counts) i ≡ claimsIn (ofSource i) (p .events)
-  pub sourceTicks : (i : ℕ) → i < 128 → sourceWaited (s .counts) i ≡ ticksIn (ofSource i) (p .events)
-  pub bucketClaims : (k : ℕ) → k < 33 → bucketClaims (s .buckets) k ≡ claimsIn (ofBucket k) (p .events)
-  pub bucketTicks : (k : ℕ) → k < 33 → bucketTicks (s .buckets) k ≡ ticksIn (ofBucket k) (p .events)
+  pub sourceClaims : (i : ℕ) → i < sourceRoom → sourceClaims (s .counts) i ≡ claimsIn (ofSource i) (p .events)
+  pub sourceTicks : (i : ℕ) → i < sourceRoom → sourceWaited (s .counts) i ≡ ticksIn (ofSource i) (p .events)
+  pub bucketClaims : (k : ℕ) → k < bucketRoom → bucketClaims (s .buckets) k ≡ claimsIn (ofBucket k) (p .events)
+  pub bucketTicks : (k : ℕ) → k < bucketRoom → bucketTicks (s .buckets) k ≡ ticksIn (ofBucket k) (p .events)
   -- "For each source, the times its pending bit rose equal its claims, plus one if it is pending now."
-  pub rises : (i : ℕ) → i < 128 → p .rose i ≡ claimsIn (ofSource i) (p .events) + cond (bitOf s i) 1 0
+  pub rises : (i : ℕ) → i < sourceRoom → p .rose i ≡ claimsIn (ofSource i) (p .events) + cond (bitOf s i) 1 0
   -- "Between two claims of one source lies a completion that took effect."
   pub separate : Separate (p .events)
   -- every state is sound, and what the mean report and the totals give is the log's own number and sum

@@ -8,6 +8,7 @@ use mathlib.Core.List.{[], _∷_}
 use Prim.Native.Nat.{ℕ, _+_, _-_, _*_, _^_, _≤_, _<_}
 use lib.Dec.{leb, eqb}
 use lib.ListN.{length}
+use Rattle.limits.specs.Limits.{sourceRoom, lastSource, contextRoom, wordRoom, enableRoom, bucketRoom, mostBits, mostEdges}
 use Rattle.laws.specs.Fold.{sumTo, allTo, allOf}
 use Rattle.laws.specs.Bits.{bit}
 use Rattle.model.specs.declared.Shape.{Shape}
@@ -23,18 +24,18 @@ use Rattle.model.specs.Registers.{kept}
 
 unfoldable pub typed : State → Bool
 typed s = allOf (
-    eqb (length (s .shape .kind)) 128
-    ∷ eqb (length (s .settings .priority)) 128
-    ∷ eqb (length (s .settings .enable)) 32
-    ∷ eqb (length (s .settings .threshold)) 8
-    ∷ eqb (length (s .requests .stage)) 128
-    ∷ eqb (length (s .requests .line)) 128
-    ∷ eqb (length (s .requests .extra)) 128
-    ∷ eqb (length (s .requests .start)) 128
-    ∷ eqb (length (s .counts .claims)) 128
-    ∷ eqb (length (s .counts .waited)) 128
-    ∷ eqb (length (s .buckets .claims)) 33
-    ∷ eqb (length (s .buckets .ticks)) 33
+    eqb (length (s .shape .kind)) sourceRoom
+    ∷ eqb (length (s .settings .priority)) sourceRoom
+    ∷ eqb (length (s .settings .enable)) enableRoom
+    ∷ eqb (length (s .settings .threshold)) contextRoom
+    ∷ eqb (length (s .requests .stage)) sourceRoom
+    ∷ eqb (length (s .requests .line)) sourceRoom
+    ∷ eqb (length (s .requests .extra)) sourceRoom
+    ∷ eqb (length (s .requests .start)) sourceRoom
+    ∷ eqb (length (s .counts .claims)) sourceRoom
+    ∷ eqb (length (s .counts .waited)) sourceRoom
+    ∷ eqb (length (s .buckets .claims)) bucketRoom
+    ∷ eqb (length (s .buckets .ticks)) bucketRoom
     ∷ leb (s .clock) 4294967295
     ∷ leb (s .steps) 4294967295
     ∷ [])
@@ -61,7 +62,7 @@ soundSource kind here most clock prio claims waited r = allOf (
     ∷ leb (r .stage) 2
     ∷ leb (r .start) clock
     ∷ (isPending r || eqb (r .start) 0)
-    ∷ leb (r .extra) 255
+    ∷ leb (r .extra) mostEdges
     ∷ (eqb kind 2 || eqb (r .extra) 0)
     ∷ (not (isIdle r) || eqb (r .extra) 0)
     ∷ not (eqb kind 0 && isIdle r && r .line)
@@ -76,48 +77,48 @@ soundSourceAt s i = soundSource (kindOf (s .shape) i) (isSource (s .shape .sourc
 unfoldable pub soundContext : Shape → Settings → ℕ → Bool
 soundContext h g c = allOf (
     (isContext (h .contexts) c || eqb (threshold g c) 0)
-    ∷ (isContext (h .contexts) c || allTo (λ w. eqb (enableWord g c w) 0) 4)
+    ∷ (isContext (h .contexts) c || allTo (λ w. eqb (enableWord g c w) 0) wordRoom)
     ∷ leb (threshold g c) (2 ^ h .bits - 1)
-    ∷ allTo (λ w. eqb (enableWord g c w) (kept (h .sources) w (enableWord g c w))) 4
+    ∷ allTo (λ w. eqb (enableWord g c w) (kept (h .sources) w (enableWord g c w))) wordRoom
     ∷ [])
 
 unfoldable pub sound : State → Bool
 sound s = allOf (
     typed s
     ∷ withinLimits (s .shape .sources) (s .shape .contexts) (s .shape .bits)
-    ∷ allTo (soundSourceAt s) 128
-    ∷ allTo (soundContext (s .shape) (s .settings)) 8
+    ∷ allTo (soundSourceAt s) sourceRoom
+    ∷ allTo (soundContext (s .shape) (s .settings)) contextRoom
     ∷ leb (boardClaims (s .counts)) (s .steps)
-    ∷ eqb (boardClaims (s .counts)) (sumTo (bucketClaims (s .buckets)) 33)
-    ∷ eqb (boardWaited (s .counts)) (sumTo (bucketTicks (s .buckets)) 33)
+    ∷ eqb (boardClaims (s .counts)) (sumTo (bucketClaims (s .buckets)) bucketRoom)
+    ∷ eqb (boardWaited (s .counts)) (sumTo (bucketTicks (s .buckets)) bucketRoom)
     ∷ [])
 
 -- the plain facts
 
 pub record Roomy (q : Requests) : Type 0 where
-  pub stage : length (q .stage) ≡ 128
-  pub line : length (q .line) ≡ 128
-  pub extra : length (q .extra) ≡ 128
-  pub start : length (q .start) ≡ 128
+  pub stage : length (q .stage) ≡ sourceRoom
+  pub line : length (q .line) ≡ sourceRoom
+  pub extra : length (q .extra) ≡ sourceRoom
+  pub start : length (q .start) ≡ sourceRoom
 
 pub record Typed (s : State) : Type 0 where
-  pub kind : length (s .shape .kind) ≡ 128
-  pub priority : length (s .settings .priority) ≡ 128
-  pub enable : length (s .settings .enable) ≡ 32
-  pub threshold : length (s .settings .threshold) ≡ 8
+  pub kind : length (s .shape .kind) ≡ sourceRoom
+  pub priority : length (s .settings .priority) ≡ sourceRoom
+  pub enable : length (s .settings .enable) ≡ enableRoom
+  pub threshold : length (s .settings .threshold) ≡ contextRoom
   pub requests : Roomy (s .requests)
-  pub claims : length (s .counts .claims) ≡ 128
-  pub waited : length (s .counts .waited) ≡ 128
-  pub bucketClaims : length (s .buckets .claims) ≡ 33
-  pub bucketTicks : length (s .buckets .ticks) ≡ 33
+  pub claims : length (s .counts .claims) ≡ sourceRoom
+  pub waited : length (s .counts .waited) ≡ sourceRoom
+  pub bucketClaims : length (s .buckets .claims) ≡ bucketRoom
+  pub bucketTicks : length (s .buckets .ticks) ≡ bucketRoom
   pub clock : s .clock ≤ 4294967295
   pub steps : s .steps ≤ 4294967295
 
 -- "shape within limits"
 pub record WithinLimits (n c b : ℕ) : Type 0 where
-  pub sources : (1 ≤ n) × (n ≤ 127)
-  pub contexts : (1 ≤ c) × (c ≤ 8)
-  pub bits : (1 ≤ b) × (b ≤ 5)
+  pub sources : (1 ≤ n) × (n ≤ lastSource)
+  pub contexts : (1 ≤ c) × (c ≤ contextRoom)
+  pub bits : (1 ≤ b) × (b ≤ mostBits)
 
 pub record AllZero (k p c w : ℕ) (r : Request) : Type 0 where
   pub kind : k ≡ 0
@@ -142,7 +143,7 @@ pub record SoundSource (h : Shape) (clock i prio claimed waited : ℕ) (r : Requ
   pub start : r .start ≤ clock
   pub startless : isPending r ≡ false → r .start ≡ 0
   -- "extra edges (0..255) only at kind 2, and none while idle"
-  pub extra : r .extra ≤ 255
+  pub extra : r .extra ≤ mostEdges
   pub counting : kindOf h i ≢ 2 → r .extra ≡ 0
   pub edgeless : So (isIdle r) → r .extra ≡ 0
   -- "no level source idle with its line high"
@@ -157,19 +158,19 @@ SoundSourceAt s i = SoundSource (s .shape) (s .clock) i (priority (s .settings) 
 pub record SoundContext (h : Shape) (g : Settings) (c : ℕ) : Type 0 where
   -- "everything zero for .. contexts not below C"
   pub absentThreshold : isContext (h .contexts) c ≡ false → threshold g c ≡ 0
-  pub absentEnables : isContext (h .contexts) c ≡ false → (w : ℕ) → w < 4 → enableWord g c w ≡ 0
+  pub absentEnables : isContext (h .contexts) c ≡ false → (w : ℕ) → w < wordRoom → enableWord g c w ≡ 0
   -- "thresholds at most 2^b − 1"
   pub thresholds : threshold g c ≤ 2 ^ h .bits - 1
   -- "enables only for 1..N": a set bit of a word is that of a source
-  pub enables : (w j : ℕ) → w < 4 → So (bit (enableWord g c w) j) → (j < 32) × So (isSource (h .sources) (w * 32 + j))
+  pub enables : (w j : ℕ) → w < wordRoom → So (bit (enableWord g c w) j) → (j < 32) × So (isSource (h .sources) (w * 32 + j))
 
 pub record Sound (s : State) : Type 0 where
   pub types : Typed s
   pub limits : WithinLimits (s .shape .sources) (s .shape .contexts) (s .shape .bits)
-  pub source : (i : ℕ) → i < 128 → SoundSourceAt s i
-  pub context : (c : ℕ) → c < 8 → SoundContext (s .shape) (s .settings) c
+  pub source : (i : ℕ) → i < sourceRoom → SoundSourceAt s i
+  pub context : (c : ℕ) → c < contextRoom → SoundContext (s .shape) (s .settings) c
   -- "the claims of all sources together at most the steps, and equal to the sum of bucket claims; the sum of closed waits
   -- equal to the sum of bucket ticks"
   pub claims : boardClaims (s .counts) ≤ s .steps
-  pub claimsBooked : boardClaims (s .counts) ≡ sumTo (bucketClaims (s .buckets)) 33
-  pub ticksBooked : boardWaited (s .counts) ≡ sumTo (bucketTicks (s .buckets)) 33
+  pub claimsBooked : boardClaims (s .counts) ≡ sumTo (bucketClaims (s .buckets)) bucketRoom
+  pub ticksBooked : boardWaited (s .counts) ≡ sumTo (bucketTicks (s .buckets)) bucketRoom

@@ -5,6 +5,7 @@ use mathlib.Core.List.{List, [], _∷_}
 use Prim.Native.Nat.{ℕ, zero, suc, _+_, _-_, _*_, _^_, _≤_, _<_}
 use lib.Dec.{leb, eqb}
 use lib.ListN.{getD, set}
+use Rattle.limits.specs.Limits.{sourceRoom, bucketRoom, lastBucket}
 use Rattle.laws.specs.Fold.{sumTo, firstTo}
 use Rattle.model.specs.declared.Counts.{Counts}
 use Rattle.model.specs.declared.Buckets.{Buckets}
@@ -46,13 +47,13 @@ lowerEnd zero = 0
 lowerEnd (suc k) = 2 ^ k
 
 pub record Holds (k w : ℕ) : Type 0 where
-  pub exists : k ≤ 32
+  pub exists : k ≤ lastBucket
   pub lower : lowerEnd k ≤ w
   pub upper : w ≤ 2 ^ k - 1
 
 -- the bucket of a wait: the lowest whose upper end the wait does not pass
 unfoldable pub bucketOf : ℕ → ℕ
-bucketOf w = firstTo (λ k. leb w (upperEnd k)) 33
+bucketOf w = firstTo (λ k. leb w (upperEnd k)) bucketRoom
 
 -- "Each bucket keeps its number of claims and the ticks those claims waited."
 unfoldable pub booked : Buckets → ℕ → Buckets
@@ -82,25 +83,25 @@ bucketTicks b k = getD (b .ticks) k 0
 
 -- "The mean report gives two whole numbers, ticks waited and claims, for the whole board; .."
 unfoldable pub boardClaims : Counts → ℕ
-boardClaims w = sumTo (sourceClaims w) 128
+boardClaims w = sumTo (sourceClaims w) sourceRoom
 
 unfoldable pub boardWaited : Counts → ℕ
-boardWaited w = sumTo (sourceWaited w) 128
+boardWaited w = sumTo (sourceWaited w) sourceRoom
 
 -- the ages still open, of all sources together
 unfoldable pub boardOpen : ℕ → Requests → ℕ
-boardOpen clock q = sumTo (λ i. openAge clock (request q i)) 128
+boardOpen clock q = sumTo (λ i. openAge clock (request q i)) sourceRoom
 
 -- "The percentile report for p per mille gives the upper end of the lowest bucket for which claims in it and below,
 -- times 1000, reach p × all claims; by time, the same with ticks for claims."
 unfoldable pub reaches : (ℕ → ℕ) → ℕ → ℕ → Bool
-reaches counts p k = leb (p * sumTo counts 33) (sumTo counts (suc k) * 1000)
+reaches counts p k = leb (p * sumTo counts bucketRoom) (sumTo counts (suc k) * 1000)
 
 unfoldable pub percentile : (ℕ → ℕ) → ℕ → ℕ
-percentile counts p = upperEnd (firstTo (reaches counts p) 33)
+percentile counts p = upperEnd (firstTo (reaches counts p) bucketRoom)
 
 -- what makes k the bucket whose upper end is given
 pub record Percentile (counts : ℕ → ℕ) (p k : ℕ) : Type 0 where
-  pub exists : k ≤ 32
-  pub reached : p * sumTo counts 33 ≤ sumTo counts (suc k) * 1000
-  pub lowest : (j : ℕ) → j < k → sumTo counts (suc j) * 1000 < p * sumTo counts 33
+  pub exists : k ≤ lastBucket
+  pub reached : p * sumTo counts bucketRoom ≤ sumTo counts (suc k) * 1000
+  pub lowest : (j : ℕ) → j < k → sumTo counts (suc j) * 1000 < p * sumTo counts bucketRoom

@@ -1,4 +1,8 @@
 // The state of the controller, and what its calls answer. Types only: what they mean is in specs/, what is proved of that in proofs/.
+use limits::BUCKET_ROOM;
+use limits::CONTEXT_ROOM;
+use limits::ENABLE_ROOM;
+use limits::SOURCE_ROOM;
 
 // What the board contains: N sources, C contexts, b priority bits, and a kind byte for each source
 // (0 level, 1 edge that drops extra edges, 2 edge that counts them). Number 0 is no source and keeps zero.
@@ -6,14 +10,14 @@ pub struct Shape {
     pub sources: u32,
     pub contexts: u32,
     pub bits: u32,
-    pub kind: [u8; 128],
+    pub kind: [u8; SOURCE_ROOM],
 }
 
-// What software sets by writing: priorities by source, enables as words of 32 sources (context × 4 + word), thresholds by context.
+// What software sets by writing: priorities by source, enables as words of 32 sources (context × WORD_ROOM + word), thresholds by context.
 pub struct Settings {
-    pub priority: [u8; 128],
-    pub enable: [u32; 32],
-    pub threshold: [u8; 8],
+    pub priority: [u8; SOURCE_ROOM],
+    pub enable: [u32; ENABLE_ROOM],
+    pub threshold: [u8; CONTEXT_ROOM],
 }
 
 // The life of one source's request: its stage (0 idle, 1 pending, 2 in service), its line, the extra edges of a counting
@@ -27,22 +31,22 @@ pub struct Request {
 
 // The same for each source.
 pub struct Requests {
-    pub stage: [u8; 128],
-    pub line: [bool; 128],
-    pub extra: [u8; 128],
-    pub start: [u32; 128],
+    pub stage: [u8; SOURCE_ROOM],
+    pub line: [bool; SOURCE_ROOM],
+    pub extra: [u8; SOURCE_ROOM],
+    pub start: [u32; SOURCE_ROOM],
 }
 
 // The finished waits of each source: how many claims, and the ticks that those waited.
 pub struct Counts {
-    pub claims: [u32; 128],
-    pub waited: [u32; 128],
+    pub claims: [u32; SOURCE_ROOM],
+    pub waited: [u32; SOURCE_ROOM],
 }
 
 // The finished waits of the whole board by length: bucket 0 holds waits of 0, bucket k those from 2^(k-1) to 2^k - 1.
 pub struct Buckets {
-    pub claims: [u32; 33],
-    pub ticks: [u64; 33],
+    pub claims: [u32; BUCKET_ROOM],
+    pub ticks: [u64; BUCKET_ROOM],
 }
 
 pub struct State {
