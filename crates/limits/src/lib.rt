@@ -5,8 +5,10 @@ pub const SOURCE_ROOM: usize = 128;
 
 pub const LAST_SOURCE: u32 = SOURCE_ROOM as u32 - 1;
 
-// Room for contexts; the words of 32 sources that a context has, and those of all contexts.
+// Room for contexts, and the most of them; the words of 32 sources that a context has, and those of all contexts.
 pub const CONTEXT_ROOM: usize = 8;
+
+pub const MOST_CONTEXTS: u32 = CONTEXT_ROOM as u32;
 
 pub const WORD_ROOM: usize = SOURCE_ROOM / 32;
 

@@ -117,19 +117,6 @@ pub fn by_time(state: State, per_mille: u32) -> Answered
     }
 }
 
-// The ages still open, of all sources together.
-pub(crate) fn open_total<'a>(clock: u32, stage: &'a [u8; 128], start: &'a [u32; 128]) -> u64
-    ensures { λ r. ⌜ r ≡ sumTo (λ i. openAgeIn clock (getD (now (stage .entry)) i 0) (getD (now (start .entry)) i 0)) 128 ⌝ }
-{
-    let mut total: u64 = 0;
-    let mut i: usize = 0;
-    while i < 128 {
-        total += wide(open_age(clock, stage[i], start[i]));
-        i += 1;
-    }
-    total
-}
-
 // The totals that stand at the end of a replay. Returns clock, claims, ticks waited by claims and ages still open, or refusal 2, and
 // the state as it was.
 pub fn totals(state: State) -> Totalled

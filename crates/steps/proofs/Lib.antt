@@ -1,0 +1,4 @@
+pub mod Bookings
+pub mod Effects
+pub mod Stores
+pub mod Whole
