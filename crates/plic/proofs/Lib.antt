@@ -1,13 +1,3 @@
-pub mod Kept
-pub mod Ranks
-pub mod Effects
-pub mod Sounds
-pub mod Answers
-pub mod Obeyed
-pub mod Going
-pub mod Rooms
-pub mod FirstLines
-pub mod Parts
-pub mod Endings
+pub mod Makes
+pub mod Refusing
 pub mod Once
-pub mod Accepted

@@ -1,27 +1,20 @@
--- Each public call's promise fixes its answer, the returned state or replay, and lent output: any two results that it allows are equal.
--- Lent bytes are only read, and a promise about a `&` slice cannot change it.
+-- Each public call's promise fixes its answer and the returned state: any two results that it allows are equal. The kind bytes that
+-- `make` is lent are behind a `&`, and no function can change those.
 -- Assumes nothing.
-use mathlib.Core.Path.{_≡_, _∙_, refl, sym, ap}
+use mathlib.Core.Path.{_≡_, _∙_, sym}
 use mathlib.Core.Bool.{Bool}
-use mathlib.Core.List.{List, []}
+use mathlib.Core.List.{List}
 use Prim.Native.Nat.{ℕ}
-use lib.ListN.{length, getD, replicate}
-use lib.Seq.{sets}
 use Rattle.model.specs.declared.State.{State}
 use Rattle.model.specs.declared.Answered.{Answered}
 use Rattle.model.specs.declared.Averaged.{Averaged}
 use Rattle.model.specs.declared.Totalled.{Totalled}
-use Rattle.model.specs.Refusals.{answered, averaged, totalled}
+use Rattle.model.specs.declared.Refusal.{Refusal}
+use Rattle.model.specs.Board.{zeroState}
+use Rattle.model.specs.Refusals.{numberOf, answered, averaged, totalled}
 use Rattle.model.specs.Sound.{sound}
 use Rattle.model.specs.Calls.{line, advance, read, write, notification, mean, byClaim, byTime, totals, respond, make}
-use Rattle.model.proofs.Refusals.{back, back-refused, answer-once, mean-once, totals-once}
-use Rattle.replaying.specs.declared.Taken.{Taken}
-use Rattle.replaying.specs.declared.Taken.the-variants.{Bytes, Refused}
-use Rattle.replaying.specs.declared.Fed.{Fed}
-use Rattle.replaying.specs.declared.Ending.{Ending}
-use Rattle.replaying.specs.declared.Replaying.{Replaying}
-use Rattle.replaying.specs.Replay.{before}
-use Rattle.replaying.specs.Pieces.{Feeding, takenNumber, takenValues, fedOf, kept, feeding, ending}
+use Rattle.model.proofs.Refusals.{answer-once, mean-once, totals-once}
 
 pub make-once : (n m b : ℕ) (kinds : List ℕ) (x y : Answered) → answered x ≡ make n m b kinds → answered y ≡ make n m b kinds → x ≡ y
 make-once n m b kinds = answer-once (make n m b kinds)
@@ -57,31 +50,8 @@ module _ (s : State) where
   pub sound-fixed : (x y : Bool) → x ≡ sound s → y ≡ sound s → x ≡ y
   sound-fixed x y p q = p ∙ sym q
 
--- feeding a replay: the answer, the replay after it and the lent output
-fed-back : Feeding → Fed × List ℕ
-fed-back f = (
-  record { taken = back (Bytes (getD (f .values) 0 0) (getD (f .values) 1 0)) Refused (f .number); replay = f .replay },
-  f .output,
-)
+pub zero-fixed : (x y : State) → x ≡ zeroState → y ≡ zeroState → x ≡ y
+zero-fixed x y p q = p ∙ sym q
 
-fed-same : (x : Fed) (out : List ℕ) → fed-back (fedOf x out) ≡ (x, out)
-unfolding fed-back fedOf takenNumber takenValues back
-fed-same x out = λ i. (record { taken = same (x .taken) i; replay = x .replay }, out)
-  where
-    same : (t : Taken) → back (Bytes (getD (takenValues t) 0 0) (getD (takenValues t) 1 0)) Refused (takenNumber t) ≡ t
-    same (Bytes taken printed) = refl
-    same (Refused r) = back-refused _ Refused r
-
-pub feed-fixed : (r : Replaying) (input output : List ℕ) (x y : Fed) (o p : List ℕ) →
-    fedOf x o ≡ feeding r input output → fedOf y p ≡ feeding r input output → (x ≡ y) × (o ≡ p)
-feed-fixed r input output x y o p e f =
-    let same = sym (fed-same x o) ∙ ap fed-back (e ∙ sym f) ∙ fed-same y p in
-    (ap (λ (k : Fed × List ℕ). k .0) same, ap (λ (k : Fed × List ℕ). k .1) same)
-
-pub start-fixed : (x y : Replaying) → x ≡ kept before [] → y ≡ kept before [] → x ≡ y
-start-fixed x y p q = p ∙ sym q
-
-pub finish-fixed : (r : Replaying) (x y : Ending) →
-    let meant : Ending = record { bytes = sets (replicate 160 0) 0 (ending r); length = length (ending r) } in
-    x ≡ meant → y ≡ meant → x ≡ y
-finish-fixed r x y p q = p ∙ sym q
+pub number-of-fixed : (r : Refusal) (x y : ℕ) → x ≡ numberOf r → y ≡ numberOf r → x ≡ y
+number-of-fixed r x y p q = p ∙ sym q

@@ -1,14 +1,13 @@
 // The calls that are steps, and the notification: each takes a state by value, checks it once, and gives the answer with the state.
-use crate::arbiter::is_notified;
-use crate::board::line_on;
-use crate::board::read_on;
-use crate::board::write_on;
-use crate::checks::Check;
-use crate::checks::access_check;
-use crate::checks::advance_check;
-use crate::checks::context_check;
-use crate::checks::line_check;
-use crate::sound::is_sound;
+use crate::answers::given;
+use crate::answers::refused;
+use leaves::arbiter::is_notified;
+use leaves::checks::Check;
+use leaves::checks::access_check;
+use leaves::checks::advance_check;
+use leaves::checks::context_check;
+use leaves::checks::line_check;
+use leaves::registers::register_at;
 use model::Answer;
 use model::Answered;
 use model::Buckets;
@@ -17,76 +16,60 @@ use model::Refusal;
 use model::Requests;
 use model::Settings;
 use model::State;
+use soundness::is_sound;
+use steps::requests::set_line;
 ghost use mathlib.Core.Path.{_≡_};
-ghost use mathlib.Core.Bool.{So};
-ghost use Prim.Native.Nat.{_+_, _%_, _≤_, _<_};
+ghost use mathlib.Core.Bool.{So, cond};
+ghost use mathlib.Core.List.{[], _∷_};
+ghost use Prim.Native.Nat.{_+_, _≤_, _<_};
 ghost use Rattle.model.specs.Board.{isSource, isContext};
 ghost use Rattle.model.specs.Life.{notified};
 ghost use Rattle.model.specs.Sound.{Sound};
 ghost use Rattle.model.specs.Refusals.{answered};
 ghost use Rattle.model.specs.Calls.{line, advance, read, write, notification, valuesOf, after, respond};
-ghost use Rattle.plic.specs.Arrays.{Ready};
-
-// A refusal, with the state as it was handed in.
-pub(crate) fn refused(state: State, why: Refusal) -> Answered
-    ensures { λ r. ⌜ r ≡ record { answer = Answer.Refused why; state = state } ⌝ }
-{
-    Answered {
-        answer: Answer::Refused(why),
-        state: state,
-    }
-}
+ghost use Rattle.steps.specs.Arrays.{Ready};
 
 // The state after a line change that is not refused.
 fn line_made(state: State, source: u32, level: bool) -> Answered
     requires { ⌜ Ready state × So (isSource (state .shape .sources) source) ⌝ }
     ensures { λ r. ⌜ r ≡ record { answer = Answer.Value 0; state = after (line source level) state } ⌝ }
 {
+    let s = source as usize;
+    let shape = state.shape;
     let mut stage = state.requests.stage;
-    let mut level_of = state.requests.line;
+    let mut levels = state.requests.line;
     let mut extra = state.requests.extra;
     let mut start = state.requests.start;
-    line_on(
-        state.shape.sources,
-        state.shape.contexts,
-        state.shape.bits,
+    set_line(
+        shape.kind[s],
         state.clock,
-        state.steps,
-        &state.shape.kind,
-        &state.settings.priority,
-        &state.settings.enable,
-        &state.settings.threshold,
+        s,
+        level,
         &mut stage,
-        &mut level_of,
+        &mut levels,
         &mut extra,
         &mut start,
-        &state.counts.claims,
-        &state.counts.waited,
-        &state.buckets.claims,
-        &state.buckets.ticks,
-        source,
-        level,
     );
     let requests = Requests {
         stage: stage,
-        line: level_of,
+        line: levels,
         extra: extra,
         start: start,
     };
     let mut next = state;
     next.requests = requests;
     next.steps = state.steps + 1;
-    Answered {
-        answer: Answer::Value(0),
-        state: next,
-    }
+    given(next, 0)
 }
 
 // Sets a source's line to a level. Returns 0 and the state after it, or a refusal (2, 3, 6) and the state as it was.
 pub fn line(state: State, source: u32, level: bool) -> Answered
     ensures { λ r. ⌜ answered r ≡ respond (line source level) state ⌝ }
 {
-    let check = line_check(is_sound(state), state.steps, state.shape.sources, source);
+    if !is_sound(state) {
+        return refused(state, Refusal::NotSound);
+    }
+    let check = line_check(state.steps, state.shape.sources, source);
     match check {
         Check::Refused(why) => refused(state, why),
         Check::Passed => line_made(state, source, level),
@@ -101,17 +84,17 @@ fn advance_made(state: State, ticks: u32) -> Answered
     let mut next = state;
     next.clock = state.clock + ticks;
     next.steps = state.steps + 1;
-    Answered {
-        answer: Answer::Value(0),
-        state: next,
-    }
+    given(next, 0)
 }
 
 // Advances the clock. Returns 0 and the state after it, or a refusal (2, 3, 8) and the state as it was.
 pub fn advance(state: State, ticks: u32) -> Answered
     ensures { λ r. ⌜ answered r ≡ respond (advance ticks) state ⌝ }
 {
-    let check = advance_check(is_sound(state), state.steps, state.clock, ticks);
+    if !is_sound(state) {
+        return refused(state, Refusal::NotSound);
+    }
+    let check = advance_check(state.steps, state.clock, ticks);
     match check {
         Check::Refused(why) => refused(state, why),
         Check::Passed => advance_made(state, ticks),
@@ -120,7 +103,7 @@ pub fn advance(state: State, ticks: u32) -> Answered
 
 // The value and the state after a read that is not refused.
 fn read_made(state: State, offset: u32) -> Answered
-    requires { ⌜ Ready state × (offset % 4 ≡ 0) ⌝ }
+    requires { ⌜ Ready state ⌝ }
     ensures { λ r. ⌜ answered r ≡ record { number = 0; values = valuesOf (read offset) state; state = after (read offset) state } ⌝ }
 {
     let mut stage = state.requests.stage;
@@ -129,25 +112,19 @@ fn read_made(state: State, offset: u32) -> Answered
     let mut waited = state.counts.waited;
     let mut bucket_claims = state.buckets.claims;
     let mut bucket_ticks = state.buckets.ticks;
-    let value = read_on(
+    let value = steps::access::read(
+        register_at(state.shape.sources, state.shape.contexts, offset),
         state.shape.sources,
-        state.shape.contexts,
-        state.shape.bits,
         state.clock,
-        state.steps,
-        &state.shape.kind,
         &state.settings.priority,
         &state.settings.enable,
         &state.settings.threshold,
         &mut stage,
-        &state.requests.line,
-        &state.requests.extra,
         &mut start,
         &mut claims,
         &mut waited,
         &mut bucket_claims,
         &mut bucket_ticks,
-        offset,
     );
     let line = state.requests.line;
     let extra = state.requests.extra;
@@ -170,10 +147,7 @@ fn read_made(state: State, offset: u32) -> Answered
     next.counts = counts;
     next.buckets = buckets;
     next.steps = state.steps + 1;
-    Answered {
-        answer: Answer::Value(value),
-        state: next,
-    }
+    given(next, value)
 }
 
 // Reads a register; a read of a claim register claims. Returns the value and the state after it, or a refusal (2, 3, 4, 5) and the
@@ -181,7 +155,10 @@ fn read_made(state: State, offset: u32) -> Answered
 pub fn read(state: State, offset: u32) -> Answered
     ensures { λ r. ⌜ answered r ≡ respond (read offset) state ⌝ }
 {
-    let check = access_check(is_sound(state), state.steps, offset);
+    if !is_sound(state) {
+        return refused(state, Refusal::NotSound);
+    }
+    let check = access_check(state.steps, offset);
     match check {
         Check::Refused(why) => refused(state, why),
         Check::Passed => read_made(state, offset),
@@ -190,7 +167,7 @@ pub fn read(state: State, offset: u32) -> Answered
 
 // The state after a write that is not refused.
 fn write_made(state: State, offset: u32, value: u32) -> Answered
-    requires { ⌜ Ready state × (offset % 4 ≡ 0) ⌝ }
+    requires { ⌜ Ready state ⌝ }
     ensures { λ r. ⌜ r ≡ record { answer = Answer.Value 0; state = after (write offset value) state } ⌝ }
 {
     let mut priority = state.settings.priority;
@@ -199,12 +176,12 @@ fn write_made(state: State, offset: u32, value: u32) -> Answered
     let mut stage = state.requests.stage;
     let mut extra = state.requests.extra;
     let mut start = state.requests.start;
-    write_on(
+    steps::access::write(
+        register_at(state.shape.sources, state.shape.contexts, offset),
+        value,
         state.shape.sources,
-        state.shape.contexts,
         state.shape.bits,
         state.clock,
-        state.steps,
         &state.shape.kind,
         &mut priority,
         &mut enable,
@@ -213,12 +190,6 @@ fn write_made(state: State, offset: u32, value: u32) -> Answered
         &state.requests.line,
         &mut extra,
         &mut start,
-        &state.counts.claims,
-        &state.counts.waited,
-        &state.buckets.claims,
-        &state.buckets.ticks,
-        offset,
-        value,
     );
     let settings = Settings {
         priority: priority,
@@ -236,10 +207,7 @@ fn write_made(state: State, offset: u32, value: u32) -> Answered
     next.settings = settings;
     next.requests = requests;
     next.steps = state.steps + 1;
-    Answered {
-        answer: Answer::Value(0),
-        state: next,
-    }
+    given(next, 0)
 }
 
 // Writes a register; a write to a claim register completes. Returns 0 and the state after it, or a refusal (2, 3, 4, 5) and the
@@ -247,50 +215,48 @@ fn write_made(state: State, offset: u32, value: u32) -> Answered
 pub fn write(state: State, offset: u32, value: u32) -> Answered
     ensures { λ r. ⌜ answered r ≡ respond (write offset value) state ⌝ }
 {
-    let check = access_check(is_sound(state), state.steps, offset);
+    if !is_sound(state) {
+        return refused(state, Refusal::NotSound);
+    }
+    let check = access_check(state.steps, offset);
     match check {
         Check::Refused(why) => refused(state, why),
         Check::Passed => write_made(state, offset, value),
     }
 }
 
-// Whether a context of a sound state is notified.
-fn notified_in(state: State, context: u32) -> bool
+// Whether a context of a sound state is notified, as 1 or 0.
+fn notified_in(state: State, context: u32) -> u32
     requires { ⌜ Sound state × So (isContext (state .shape .contexts) context) ⌝ }
-    ensures { λ r. ⌜ r ≡ notified state context ⌝ }
+    ensures { λ r. ⌜ r ≡ cond (notified state context) 1 0 ⌝ }
 {
     let c = context as usize;
     let n = state.shape.sources as usize;
     let settings = state.settings;
     let threshold = settings.threshold[c];
-    is_notified(
+    if is_notified(
         &state.requests.stage,
         &state.settings.priority,
         &state.settings.enable,
         threshold,
         n,
         c,
-    )
+    ) {
+        return 1;
+    }
+    0
 }
 
 // Whether a context is notified. Returns 1 or 0, or a refusal (2, 7), and the state as it was.
 pub fn notification(state: State, context: u32) -> Answered
     ensures { λ r. ⌜ answered r ≡ respond (notification context) state ⌝ }
 {
-    let check = context_check(is_sound(state), state.shape.contexts, context);
+    if !is_sound(state) {
+        return refused(state, Refusal::NotSound);
+    }
+    let check = context_check(state.shape.contexts, context);
     match check {
         Check::Refused(why) => refused(state, why),
-        Check::Passed => {
-            if notified_in(state, context) {
-                return Answered {
-                    answer: Answer::Value(1),
-                    state: state,
-                };
-            }
-            Answered {
-                answer: Answer::Value(0),
-                state: state,
-            }
-        }
+        Check::Passed => given(state, notified_in(state, context)),
     }
 }

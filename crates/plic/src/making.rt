@@ -1,7 +1,10 @@
 // Making a state: a shape and its kind bytes, checked, and a fresh state of it.
-use crate::calls::refused;
-use crate::sound::within_limits;
-use model::Answer;
+use crate::answers::given;
+use crate::answers::refused;
+use limits::BUCKET_ROOM;
+use limits::CONTEXT_ROOM;
+use limits::ENABLE_ROOM;
+use limits::SOURCE_ROOM;
 use model::Answered;
 use model::Buckets;
 use model::Counts;
@@ -10,11 +13,13 @@ use model::Requests;
 use model::Settings;
 use model::Shape;
 use model::State;
+use soundness::within_limits;
 ghost use mathlib.Core.Path.{_≡_};
 ghost use mathlib.Core.List.{_∷_, _++_};
 ghost use Prim.Native.Nat.{ℕ, _-_, _≤_};
 ghost use lib.Dec.{leb};
 ghost use lib.ListN.{length, getD, replicate};
+ghost use Rattle.limits.specs.Limits.{lastSource};
 ghost use Rattle.laws.specs.Fold.{allTo};
 ghost use Rattle.model.specs.Board.{freshIn, zeroState};
 ghost use Rattle.model.specs.Refusals.{answered};
@@ -29,36 +34,36 @@ fn fresh(shape: Shape) -> State
         clock: 0,
         steps: 0,
         settings: Settings {
-            priority: [0u8; 128],
-            enable: [0u32; 32],
-            threshold: [0u8; 8],
+            priority: [0u8; SOURCE_ROOM],
+            enable: [0u32; ENABLE_ROOM],
+            threshold: [0u8; CONTEXT_ROOM],
         },
         requests: Requests {
-            stage: [0u8; 128],
-            line: [false; 128],
-            extra: [0u8; 128],
-            start: [0u32; 128],
+            stage: [0u8; SOURCE_ROOM],
+            line: [false; SOURCE_ROOM],
+            extra: [0u8; SOURCE_ROOM],
+            start: [0u32; SOURCE_ROOM],
         },
         counts: Counts {
-            claims: [0u32; 128],
-            waited: [0u32; 128],
+            claims: [0u32; SOURCE_ROOM],
+            waited: [0u32; SOURCE_ROOM],
         },
         buckets: Buckets {
-            claims: [0u32; 33],
-            ticks: [0u64; 33],
+            claims: [0u32; BUCKET_ROOM],
+            ticks: [0u64; BUCKET_ROOM],
         },
     }
 }
 
-// A state that is zero throughout.
-pub(crate) fn zero() -> State
+// A state that is zero throughout: no board, and so not sound.
+pub fn zero() -> State
     ensures { λ r. ⌜ r ≡ zeroState ⌝ }
 {
     fresh(Shape {
         sources: 0,
         contexts: 0,
         bits: 0,
-        kind: [0u8; 128],
+        kind: [0u8; SOURCE_ROOM],
     })
 }
 
@@ -77,11 +82,11 @@ fn kinds_known(kinds: &[u8]) -> bool
 }
 
 // The kinds by source: byte i is that of source i + 1.
-fn kinds_by_source(kinds: &[u8]) -> [u8; 128]
-    requires { ⌜ length (now kinds) ≤ 127 ⌝ }
-    ensures { λ r. ⌜ r ≡ 0 ∷ (now (kinds .entry) ++ replicate (127 - length (now (kinds .entry))) 0) ⌝ }
+fn kinds_by_source(kinds: &[u8]) -> [u8; SOURCE_ROOM]
+    requires { ⌜ length (now kinds) ≤ lastSource ⌝ }
+    ensures { λ r. ⌜ r ≡ 0 ∷ (now (kinds .entry) ++ replicate (lastSource - length (now (kinds .entry))) 0) ⌝ }
 {
-    let mut kind = [0u8; 128];
+    let mut kind = [0u8; SOURCE_ROOM];
     let mut i: usize = 0;
     while i < kinds.len() {
         kind[i + 1] = kinds[i];
@@ -111,8 +116,5 @@ pub fn make(n: u32, m: u32, b: u32, kinds: &[u8]) -> Answered
         bits: b,
         kind: kind,
     };
-    Answered {
-        answer: Answer::Value(0),
-        state: fresh(shape),
-    }
+    given(fresh(shape), 0)
 }

@@ -1,18 +1,37 @@
--- `calls::advance` meets its contract: the first refusal that the check finds, or the step.
+-- `calls::advance` meets its contract: the first refusal, or the step.
 -- Assumes nothing.
 use borrow.Author.Needs.{needs}
-use mathlib.Core.Path.{_∙_, sym, ap}
-use mathlib.Core.Bool.{Bool}
-use Rattle.model.specs.Refusals.{answerNumber, answerValues, answered, firstOf}
-use Rattle.model.specs.Calls.{advance, notSound, noStepLeft, offsetAbove, offsetUnaligned, noSuchSource, noSuchContext, clockPast, grounds, valuesOf}
-use Rattle.model.proofs.Calls.{refused-as, accepted-as}
-use Rattle.plic.specs.Checks.{checkNumber, advanceGrounds}
-use Rattle.plic.proofs.Accepted.{advance-ready}
+use mathlib.Core.Path.{_≡_, _∙_, refl, sym, ap}
+use mathlib.Core.Bool.{So}
+use borrow.Author.Tests.{not-true, not-false}
+use Rattle.model.specs.Sound.{sound}
+use Rattle.model.specs.Calls.{Call, advance, valuesOf}
+use Rattle.leaves.specs.Checks.{checkNumber}
+use Rattle.leaves.proofs.Passed.{advance-passed}
+use Rattle.plic.proofs.Refusing.{advance-owns, says-unsound, says-refused, says-accepted, given-as}
 use Rattle.plic.proofs.calls.advance.Statement.{statement}
 use Rattle.plic.proofs.calls.advance.Tie as tie
 
+-- the call that is asked for
+abbrev asked : tie.Start → Call
+asked s = advance (s .args .ticks)
+
+-- past the first test the state is sound
+is-so : (e : tie.Else1) → So (sound (e .before .before .args .state))
+is-so e = sym (e .before .is-sound .ensures) ∙ not-false _ (e .if1 .left)
+
 is-sound-requires : tie.Need-is-sound-requires
 is-sound-requires c κs = search needs
+
+refused-requires : tie.Need-refused-requires
+refused-requires c κs = search needs
+
+returns : tie.Need-returns
+unfolding valuesOf
+returns c =
+    let s = c .before .before .before in
+    let unsound = sym (c .before .before .is-sound .ensures) ∙ not-true _ (c .before .if1 .taken) in
+    says-unsound (advance-owns (s .args .state) (s .args .ticks)) refl (c .refused .result) unsound (c .refused .ensures)
 
 advance-check-requires : tie.Need-advance-check-requires
 advance-check-requires c κs = search needs
@@ -20,37 +39,48 @@ advance-check-requires c κs = search needs
 enum-known-check : tie.Need-enum-known-check
 enum-known-check c = search needs
 
-refused-requires : tie.Need-refused-requires
-refused-requires c κs = search needs
+refused-requires-2 : tie.Need-refused-requires-2
+refused-requires-2 c κs = search needs
 
 enum-told : tie.Need-enum-told
 enum-told c = search needs
 
 advance-made-requires : tie.Need-advance-made-requires
-unfolding grounds notSound noStepLeft offsetAbove offsetUnaligned noSuchSource noSuchContext clockPast
-advance-made-requires c κs = advance-ready (c .before .before .before .before .args .state) (c .before .before .before .before .args .ticks) (ap (λ (t : Bool). firstOf (advanceGrounds t (c .before .before .before .before .args .state .steps) (c .before .before .before .before .args .state .clock) (c .before .before .before .before .args .ticks))) (sym (c .before .before .before .is-sound .ensures)) ∙ sym (c .before .before .advance-check .ensures) ∙ ap checkNumber (c .enum-told .given .1))
-
-returns : tie.Need-returns
-unfolding answered answerNumber answerValues valuesOf grounds notSound noStepLeft offsetAbove offsetUnaligned noSuchSource noSuchContext clockPast
-returns c =
-    ap answered (c .refused .ensures)
-    ∙ sym (refused-as (advance (c .before .before .before .before .before .before .args .ticks)) (c .before .before .before .before .before .before .args .state) (c .before .before .check .given .0 .0) (ap (λ (t : Bool). firstOf (advanceGrounds t (c .before .before .before .before .before .before .args .state .steps) (c .before .before .before .before .before .before .args .state .clock) (c .before .before .before .before .before .before .args .ticks))) (sym (c .before .before .before .before .before .is-sound .ensures)) ∙ sym (c .before .before .before .before .advance-check .ensures) ∙ ap checkNumber (c .before .before .check .given .1)))
+advance-made-requires c κs =
+    let e = c .before .before .before in
+    let s = e .before .before in
+    let a = s .args in
+    let none = sym (c .before .before .advance-check .ensures) ∙ ap checkNumber (c .enum-told .given .1) in
+    advance-passed (a .state .steps) (a .state .clock) (a .ticks) none
 
 returns-2 : tie.Need-returns-2
-unfolding answered answerNumber answerValues valuesOf grounds notSound noStepLeft offsetAbove offsetUnaligned noSuchSource noSuchContext clockPast
+unfolding valuesOf
 returns-2 c =
-    ap answered (c .advance-made .ensures)
-    ∙ sym (accepted-as (advance (c .before .before .before .before .before .args .ticks)) (c .before .before .before .before .before .args .state) (ap (λ (t : Bool). firstOf (advanceGrounds t (c .before .before .before .before .before .args .state .steps) (c .before .before .before .before .before .args .state .clock) (c .before .before .before .before .before .args .ticks))) (sym (c .before .before .before .before .is-sound .ensures)) ∙ sym (c .before .before .before .advance-check .ensures) ∙ ap checkNumber (c .before .enum-told .given .1)))
+    let e = c .before .before .before .before .before in
+    let s = e .before .before in
+    let why = c .before .before .check .given in
+    let number = sym (c .before .before .before .before .advance-check .ensures) ∙ ap checkNumber (why .1) in
+    says-refused (advance-owns (s .args .state) (s .args .ticks)) refl (why .0 .0) (c .refused2 .result) (is-so e) number (c .refused2 .ensures)
+
+returns-3 : tie.Need-returns-3
+unfolding valuesOf
+returns-3 c =
+    let e = c .before .before .before .before in
+    let s = e .before .before in
+    let none = sym (c .before .before .before .advance-check .ensures) ∙ ap checkNumber (c .before .enum-told .given .1) in
+    says-accepted (advance-owns (s .args .state) (s .args .ticks)) _ (is-so e) none (given-as (asked s) (s .args .state) 0 (c .advance-made .result) refl (c .advance-made .ensures))
 
 pub advance-spec : {M : Type 1} → statement M
 advance-spec =
     tie.close
     (tie.spec
     is-sound-requires
+    refused-requires
+    returns
     advance-check-requires
     enum-known-check
-    refused-requires
+    refused-requires-2
     enum-told
     advance-made-requires
-    returns
-    returns-2)
+    returns-2
+    returns-3)

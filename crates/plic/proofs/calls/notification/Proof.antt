@@ -1,20 +1,41 @@
--- `calls::notification` meets its contract: the first refusal that the check finds, or the arbiter's answer.
+-- `calls::notification` meets its contract: the first refusal, or the arbiter's answer.
 -- Assumes nothing.
 use borrow.Author.Needs.{needs}
-use mathlib.Core.Path.{_∙_, sym, ap}
-use mathlib.Core.Bool.{Bool}
+use mathlib.Core.Path.{_≡_, _∙_, refl, sym, ap}
+use mathlib.Core.Bool.{So}
+use borrow.Author.Tests.{not-true, not-false}
 use mathlib.Core.List.{[], _∷_}
-use Rattle.laws.proofs.Truth.{cond-so, cond-not}
-use Rattle.model.specs.Refusals.{answerNumber, answerValues, answered, firstOf}
-use Rattle.model.specs.Calls.{notification, notSound, noSuchContext, isStep, grounds, valuesOf, effect, after}
-use Rattle.model.proofs.Calls.{refused-as, accepted-as}
-use Rattle.plic.specs.Checks.{checkNumber, contextGrounds}
-use Rattle.plic.proofs.Accepted.{context-ready}
+use Prim.Native.Nat.{ℕ}
+use Rattle.model.proofs.Sound.{sound-facts}
+use Rattle.model.specs.Calls.{isStep, effect, after}
+use Rattle.model.specs.Sound.{sound}
+use Rattle.model.specs.Calls.{Call, notification, valuesOf}
+use Rattle.leaves.specs.Checks.{checkNumber}
+use Rattle.leaves.proofs.Passed.{context-passed}
+use Rattle.plic.proofs.Refusing.{notification-owns, says-unsound, says-refused, says-accepted, given-as}
 use Rattle.plic.proofs.calls.notification.Statement.{statement}
 use Rattle.plic.proofs.calls.notification.Tie as tie
 
+-- the call that is asked for
+abbrev asked : tie.Start → Call
+asked s = notification (s .args .context)
+
+-- past the first test the state is sound
+is-so : (e : tie.Else1) → So (sound (e .before .before .args .state))
+is-so e = sym (e .before .is-sound .ensures) ∙ not-false _ (e .if1 .left)
+
 is-sound-requires : tie.Need-is-sound-requires
 is-sound-requires c κs = search needs
+
+refused-requires : tie.Need-refused-requires
+refused-requires c κs = search needs
+
+returns : tie.Need-returns
+unfolding valuesOf
+returns c =
+    let s = c .before .before .before in
+    let unsound = sym (c .before .before .is-sound .ensures) ∙ not-true _ (c .before .if1 .taken) in
+    says-unsound (notification-owns (s .args .state) (s .args .context)) refl (c .refused .result) unsound (c .refused .ensures)
 
 context-check-requires : tie.Need-context-check-requires
 context-check-requires c κs = search needs
@@ -22,46 +43,54 @@ context-check-requires c κs = search needs
 enum-known-check : tie.Need-enum-known-check
 enum-known-check c = search needs
 
-refused-requires : tie.Need-refused-requires
-refused-requires c κs = search needs
+refused-requires-2 : tie.Need-refused-requires-2
+refused-requires-2 c κs = search needs
 
 enum-told : tie.Need-enum-told
 enum-told c = search needs
 
 notified-in-requires : tie.Need-notified-in-requires
-unfolding grounds notSound noSuchContext
-notified-in-requires c κs = context-ready (c .before .before .before .before .args .state) (c .before .before .before .before .args .context) (ap (λ (t : Bool). firstOf (contextGrounds t (c .before .before .before .before .args .state .shape .contexts) (c .before .before .before .before .args .context))) (sym (c .before .before .before .is-sound .ensures)) ∙ sym (c .before .before .context-check .ensures) ∙ ap checkNumber (c .enum-told .given .1))
+notified-in-requires c κs =
+    let e = c .before .before .before in
+    let s = e .before .before in
+    let a = s .args in
+    let none = sym (c .before .before .context-check .ensures) ∙ ap checkNumber (c .enum-told .given .1) in
+    (sound-facts _ (is-so e), context-passed (a .state .shape .contexts) (a .context) none)
 
-returns : tie.Need-returns
-unfolding answered answerNumber answerValues valuesOf after effect isStep grounds notSound noSuchContext
-returns c =
-    let s = c .before .before .before .before .before .before .args .state in
-    (λ i. record { number = 0; values = sym (cond-so 1 0 (sym (c .before .notified-in .ensures) ∙ c .if1 .taken)) i ∷ []; state = s })
-    ∙ sym (accepted-as (notification (c .before .before .before .before .before .before .args .context)) s (ap (λ (t : Bool). firstOf (contextGrounds t (c .before .before .before .before .before .before .args .state .shape .contexts) (c .before .before .before .before .before .before .args .context))) (sym (c .before .before .before .before .before .is-sound .ensures)) ∙ sym (c .before .before .before .before .context-check .ensures) ∙ ap checkNumber (c .before .before .enum-told .given .1)))
+given-requires : tie.Need-given-requires
+given-requires c κs = search needs
 
 returns-2 : tie.Need-returns-2
-unfolding answered answerNumber answerValues valuesOf grounds notSound noSuchContext
+unfolding valuesOf
 returns-2 c =
-    ap answered (c .refused .ensures)
-    ∙ sym (refused-as (notification (c .before .before .before .before .before .before .args .context)) (c .before .before .before .before .before .before .args .state) (c .before .before .check .given .0 .0) (ap (λ (t : Bool). firstOf (contextGrounds t (c .before .before .before .before .before .before .args .state .shape .contexts) (c .before .before .before .before .before .before .args .context))) (sym (c .before .before .before .before .before .is-sound .ensures)) ∙ sym (c .before .before .before .before .context-check .ensures) ∙ ap checkNumber (c .before .before .check .given .1)))
+    let e = c .before .before .before .before .before in
+    let s = e .before .before in
+    let why = c .before .before .check .given in
+    let number = sym (c .before .before .before .before .context-check .ensures) ∙ ap checkNumber (why .1) in
+    says-refused (notification-owns (s .args .state) (s .args .context)) refl (why .0 .0) (c .refused2 .result) (is-so e) number (c .refused2 .ensures)
 
 returns-3 : tie.Need-returns-3
-unfolding answered answerNumber answerValues valuesOf after effect isStep grounds notSound noSuchContext
+unfolding valuesOf after effect isStep
 returns-3 c =
-    let s = c .before .before .before .before .before .before .args .state in
-    (λ i. record { number = 0; values = sym (cond-not 1 0 (sym (c .before .notified-in .ensures) ∙ c .if1 .left)) i ∷ []; state = s })
-    ∙ sym (accepted-as (notification (c .before .before .before .before .before .before .args .context)) s (ap (λ (t : Bool). firstOf (contextGrounds t (c .before .before .before .before .before .before .args .state .shape .contexts) (c .before .before .before .before .before .before .args .context))) (sym (c .before .before .before .before .before .is-sound .ensures)) ∙ sym (c .before .before .before .before .context-check .ensures) ∙ ap checkNumber (c .before .before .enum-told .given .1)))
+    let e = c .before .before .before .before .before in
+    let s = e .before .before in
+    let none = sym (c .before .before .before .before .context-check .ensures) ∙ ap checkNumber (c .before .before .enum-told .given .1) in
+    says-accepted (notification-owns (s .args .state) (s .args .context)) _ (is-so e) none
+    (given-as (asked s) (s .args .state) (c .before .notified-in .result) (c .given .result) (ap (λ (k : ℕ). k ∷ []) (sym (c .before .notified-in .ensures)))
+    (c .given .ensures))
 
 pub notification-spec : {M : Type 1} → statement M
 notification-spec =
     tie.close
     (tie.spec
     is-sound-requires
+    refused-requires
+    returns
     context-check-requires
     enum-known-check
-    refused-requires
+    refused-requires-2
     enum-told
     notified-in-requires
-    returns
+    given-requires
     returns-2
     returns-3)

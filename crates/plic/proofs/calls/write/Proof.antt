@@ -1,18 +1,37 @@
--- `calls::write` meets its contract: the first refusal that the check finds, or the step.
+-- `calls::write` meets its contract: the first refusal, or the step.
 -- Assumes nothing.
 use borrow.Author.Needs.{needs}
-use mathlib.Core.Path.{_∙_, sym, ap}
-use mathlib.Core.Bool.{Bool}
-use Rattle.model.specs.Refusals.{answerNumber, answerValues, answered, firstOf}
-use Rattle.model.specs.Calls.{write, notSound, noStepLeft, offsetAbove, offsetUnaligned, noSuchSource, noSuchContext, clockPast, grounds, valuesOf}
-use Rattle.model.proofs.Calls.{refused-as, accepted-as}
-use Rattle.plic.specs.Checks.{checkNumber, accessGrounds}
-use Rattle.plic.proofs.Accepted.{write-ready}
+use mathlib.Core.Path.{_≡_, _∙_, refl, sym, ap}
+use mathlib.Core.Bool.{So}
+use borrow.Author.Tests.{not-true, not-false}
+use Rattle.model.specs.Sound.{sound}
+use Rattle.model.specs.Calls.{Call, write, valuesOf}
+use Rattle.leaves.specs.Checks.{checkNumber}
+use Rattle.leaves.proofs.Passed.{step-passed}
+use Rattle.plic.proofs.Refusing.{write-owns, says-unsound, says-refused, says-accepted, given-as, ready}
 use Rattle.plic.proofs.calls.write.Statement.{statement}
 use Rattle.plic.proofs.calls.write.Tie as tie
 
+-- the call that is asked for
+abbrev asked : tie.Start → Call
+asked s = write (s .args .offset) (s .args .value)
+
+-- past the first test the state is sound
+is-so : (e : tie.Else1) → So (sound (e .before .before .args .state))
+is-so e = sym (e .before .is-sound .ensures) ∙ not-false _ (e .if1 .left)
+
 is-sound-requires : tie.Need-is-sound-requires
 is-sound-requires c κs = search needs
+
+refused-requires : tie.Need-refused-requires
+refused-requires c κs = search needs
+
+returns : tie.Need-returns
+unfolding valuesOf
+returns c =
+    let s = c .before .before .before in
+    let unsound = sym (c .before .before .is-sound .ensures) ∙ not-true _ (c .before .if1 .taken) in
+    says-unsound (write-owns (s .args .state) (s .args .offset) (s .args .value)) refl (c .refused .result) unsound (c .refused .ensures)
 
 access-check-requires : tie.Need-access-check-requires
 access-check-requires c κs = search needs
@@ -20,37 +39,48 @@ access-check-requires c κs = search needs
 enum-known-check : tie.Need-enum-known-check
 enum-known-check c = search needs
 
-refused-requires : tie.Need-refused-requires
-refused-requires c κs = search needs
+refused-requires-2 : tie.Need-refused-requires-2
+refused-requires-2 c κs = search needs
 
 enum-told : tie.Need-enum-told
 enum-told c = search needs
 
 write-made-requires : tie.Need-write-made-requires
-unfolding grounds notSound noStepLeft offsetAbove offsetUnaligned noSuchSource noSuchContext clockPast
-write-made-requires c κs = write-ready (c .before .before .before .before .args .state) (c .before .before .before .before .args .offset) (c .before .before .before .before .args .value) (ap (λ (t : Bool). firstOf (accessGrounds t (c .before .before .before .before .args .state .steps) (c .before .before .before .before .args .offset))) (sym (c .before .before .before .is-sound .ensures)) ∙ sym (c .before .before .access-check .ensures) ∙ ap checkNumber (c .enum-told .given .1))
-
-returns : tie.Need-returns
-unfolding answered answerNumber answerValues valuesOf grounds notSound noStepLeft offsetAbove offsetUnaligned noSuchSource noSuchContext clockPast
-returns c =
-    ap answered (c .refused .ensures)
-    ∙ sym (refused-as (write (c .before .before .before .before .before .before .args .offset) (c .before .before .before .before .before .before .args .value)) (c .before .before .before .before .before .before .args .state) (c .before .before .check .given .0 .0) (ap (λ (t : Bool). firstOf (accessGrounds t (c .before .before .before .before .before .before .args .state .steps) (c .before .before .before .before .before .before .args .offset))) (sym (c .before .before .before .before .before .is-sound .ensures)) ∙ sym (c .before .before .before .before .access-check .ensures) ∙ ap checkNumber (c .before .before .check .given .1)))
+write-made-requires c κs =
+    let e = c .before .before .before in
+    let s = e .before .before in
+    let a = s .args in
+    let none = sym (c .before .before .access-check .ensures) ∙ ap checkNumber (c .enum-told .given .1) in
+    ready (is-so e) (step-passed (a .state .steps) _ none .0)
 
 returns-2 : tie.Need-returns-2
-unfolding answered answerNumber answerValues valuesOf grounds notSound noStepLeft offsetAbove offsetUnaligned noSuchSource noSuchContext clockPast
+unfolding valuesOf
 returns-2 c =
-    ap answered (c .write-made .ensures)
-    ∙ sym (accepted-as (write (c .before .before .before .before .before .args .offset) (c .before .before .before .before .before .args .value)) (c .before .before .before .before .before .args .state) (ap (λ (t : Bool). firstOf (accessGrounds t (c .before .before .before .before .before .args .state .steps) (c .before .before .before .before .before .args .offset))) (sym (c .before .before .before .before .is-sound .ensures)) ∙ sym (c .before .before .before .access-check .ensures) ∙ ap checkNumber (c .before .enum-told .given .1)))
+    let e = c .before .before .before .before .before in
+    let s = e .before .before in
+    let why = c .before .before .check .given in
+    let number = sym (c .before .before .before .before .access-check .ensures) ∙ ap checkNumber (why .1) in
+    says-refused (write-owns (s .args .state) (s .args .offset) (s .args .value)) refl (why .0 .0) (c .refused2 .result) (is-so e) number (c .refused2 .ensures)
+
+returns-3 : tie.Need-returns-3
+unfolding valuesOf
+returns-3 c =
+    let e = c .before .before .before .before in
+    let s = e .before .before in
+    let none = sym (c .before .before .before .access-check .ensures) ∙ ap checkNumber (c .before .enum-told .given .1) in
+    says-accepted (write-owns (s .args .state) (s .args .offset) (s .args .value)) _ (is-so e) none (given-as (asked s) (s .args .state) 0 (c .write-made .result) refl (c .write-made .ensures))
 
 pub write-spec : {M : Type 1} → statement M
 write-spec =
     tie.close
     (tie.spec
     is-sound-requires
+    refused-requires
+    returns
     access-check-requires
     enum-known-check
-    refused-requires
+    refused-requires-2
     enum-told
     write-made-requires
-    returns
-    returns-2)
+    returns-2
+    returns-3)

@@ -7,21 +7,22 @@ use mathlib.Core.List.{List, [], _∷_, _++_, append-assoc}
 use native.Mathlib.Numerals.{add-one}
 use lib.ListN.{length, getD, take, set, replicate}
 use lib.Seq.{take-suc, take-length, set-at, length-take-le}
+use Rattle.limits.specs.Limits.{lastSource}
 use Rattle.plic.proofs.making.kinds_by_source.Statement.{statement}
 use Rattle.plic.proofs.making.kinds_by_source.Tie as tie
 
 abbrev filled : List ℕ → ℕ → List ℕ
-filled kinds i = 0 ∷ (take i kinds ++ replicate (127 - i) 0)
+filled kinds i = 0 ∷ (take i kinds ++ replicate (lastSource - i) 0)
 
-more : (kinds : List ℕ) (i : ℕ) → i < length kinds → length kinds ≤ 127 →
+more : (kinds : List ℕ) (i : ℕ) → i < length kinds → length kinds ≤ lastSource →
     set (filled kinds i) (i + 1) (getD kinds i 0) ≡ filled kinds (i + 1)
 more kinds i h most =
-    let left : 127 - i ≡ suc (127 - (i + 1)) = omega arith in
+    let left : lastSource - i ≡ suc (lastSource - (i + 1)) = omega arith in
     ap₂ (λ (k : ℕ) (r : ℕ). set (0 ∷ (take i kinds ++ replicate r 0)) k v) (add-one i) left
     ∙ ap (λ (l : List ℕ). 0 ∷ l)
-    (set-at (take i kinds) 0 (replicate (127 - (i + 1)) 0) v i (length-take-le i kinds (omega arith))
-    ∙ sym (ap (λ (l : List ℕ). l ++ replicate (127 - (i + 1)) 0) (ap (λ (k : ℕ). take k kinds) (add-one i) ∙ take-suc kinds i 0 h)
-    ∙ append-assoc (take i kinds) (v ∷ []) (replicate (127 - (i + 1)) 0)))
+    (set-at (take i kinds) 0 (replicate (lastSource - (i + 1)) 0) v i (length-take-le i kinds (omega arith))
+    ∙ sym (ap (λ (l : List ℕ). l ++ replicate (lastSource - (i + 1)) 0) (ap (λ (k : ℕ). take k kinds) (add-one i) ∙ take-suc kinds i 0 h)
+    ∙ append-assoc (take i kinds) (v ∷ []) (replicate (lastSource - (i + 1)) 0)))
   where
     v : ℕ
     v = getD kinds i 0
@@ -60,7 +61,7 @@ returns : tie.Need-returns Inv-loop μ-loop
 returns c =
     let kinds = c .before .before .args .kinds .now in
     let last : c .before .loop .i ≡ length kinds = omega arith in
-    c .before .loop .inv .1 ∙ ap (filled kinds) last ∙ ap (λ l. 0 ∷ (l ++ replicate (127 - length kinds) 0)) (take-length kinds)
+    c .before .loop .inv .1 ∙ ap (filled kinds) last ∙ ap (λ l. 0 ∷ (l ++ replicate (lastSource - length kinds) 0)) (take-length kinds)
 
 pub kinds-by-source-spec : {M : Type 1} → statement M
 kinds-by-source-spec =

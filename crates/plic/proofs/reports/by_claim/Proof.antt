@@ -1,28 +1,53 @@
--- `reports::by_claim` meets its contract: the first refusal that the check finds, or the walk over the buckets.
+-- `reports::by_claim` meets its contract: the first refusal, or the walk over the buckets.
 -- Assumes nothing.
 use borrow.Author.Needs.{needs}
-use mathlib.Core.Path.{_∙_, sym, ap, ap₂}
-use Prim.Native.Nat.{ℕ}
-use native.Mathlib.Omega.{arith}
-use mathlib.Core.Bool.{Bool}
+use mathlib.Core.Path.{_≡_, _∙_, refl, sym, ap}
+use mathlib.Core.Bool.{So}
 use mathlib.Core.List.{List, [], _∷_}
+use Prim.Native.Nat.{ℕ, _≤_}
+use native.Mathlib.Omega.{arith}
 use lib.ListN.{getD}
+use borrow.Author.Tests.{not-true, not-false}
+use Rattle.limits.specs.Limits.{bucketRoom}
 use Rattle.laws.specs.Fold.{sumTo}
 use Rattle.model.specs.Waits.{sourceClaims, sourceWaited, boardClaims, boardWaited, bucketClaims, bucketTicks, percentile}
-use Rattle.model.specs.Refusals.{answerNumber, answerValues, answered, firstOf}
-use Rattle.model.specs.Calls.{byClaim, notSound, perMilleOutside, nothingToDivide, isStep, grounds, valuesOf, effect, after}
-use Rattle.model.proofs.Calls.{refused-as, accepted-as}
-use Rattle.plic.specs.Checks.{checkNumber, percentileGrounds}
-use Rattle.plic.proofs.Accepted.{claim-ready}
-use Rattle.plic.proofs.Sounds.{claims-fit}
+use Rattle.model.specs.Refusals.{firstOf}
+use Rattle.model.specs.Sound.{sound, Sound}
+use Rattle.model.specs.Calls.{byClaim, isStep, valuesOf, effect, after}
+use Rattle.model.proofs.Sound.{sound-facts}
+use Rattle.leaves.specs.Checks.{checkNumber, percentileGrounds}
+use Rattle.leaves.proofs.Passed.{percentile-passed}
+use Rattle.steps.proofs.Bookings.{claims-fit}
+use Rattle.plic.proofs.Refusing.{claim-owns, says-unsound, says-refused, says-accepted, given-as}
 use Rattle.plic.proofs.reports.by_claim.Statement.{statement}
 use Rattle.plic.proofs.reports.by_claim.Tie as tie
 
-source-total-requires : tie.Need-source-total-requires
-source-total-requires c κs = search needs
+-- past the first test the state is sound
+is-so : (e : tie.Else1) → So (sound (e .before .before .args .t1))
+is-so e = sym (e .before .is-sound .ensures) ∙ not-false _ (e .if1 .left)
+
+-- the total that is checked is the board's
+own : (d : tie.After-source-total) →
+    let s = d .before .before .before .before .before .args in
+    (p : ℕ) → firstOf (percentileGrounds p (d .source-total .result)) ≡ firstOf (percentileGrounds p (boardClaims (s .t1 .counts)))
+unfolding boardClaims boardWaited sourceClaims sourceWaited
+own d p = ap (λ (n : ℕ). firstOf (percentileGrounds p n)) (d .source-total .ensures)
 
 is-sound-requires : tie.Need-is-sound-requires
 is-sound-requires c κs = search needs
+
+refused-requires : tie.Need-refused-requires
+refused-requires c κs = search needs
+
+returns : tie.Need-returns
+unfolding valuesOf
+returns c =
+    let s = c .before .before .before in
+    let unsound = sym (c .before .before .is-sound .ensures) ∙ not-true _ (c .before .if1 .taken) in
+    says-unsound (claim-owns (s .args .t1) (s .args .per-mille)) refl (c .refused .result) unsound (c .refused .ensures)
+
+source-total-requires : tie.Need-source-total-requires
+source-total-requires c κs = search needs
 
 percentile-check-requires : tie.Need-percentile-check-requires
 percentile-check-requires c κs = search needs
@@ -30,48 +55,65 @@ percentile-check-requires c κs = search needs
 enum-known-check : tie.Need-enum-known-check
 enum-known-check c = search needs
 
-refused-requires : tie.Need-refused-requires
-refused-requires c κs = search needs
+refused-requires-2 : tie.Need-refused-requires-2
+refused-requires-2 c κs = search needs
 
 enum-told : tie.Need-enum-told
 enum-told c = search needs
 
 widened-requires : tie.Need-widened-requires
-unfolding grounds notSound perMilleOutside nothingToDivide boardClaims boardWaited sourceClaims sourceWaited
-widened-requires c κs = claim-ready (c .before .before .before .before .before .before .before .before .before .args .t1) (c .before .before .before .before .before .before .before .before .before .args .per-mille) (ap₂ (λ (t : Bool) (n : ℕ). firstOf (percentileGrounds t (c .before .before .before .before .before .before .before .before .before .args .per-mille) n)) (sym (c .before .before .before .before .before .is-sound .ensures)) (sym (c .before .before .before .before .before .before .source-total .ensures)) ∙ sym (c .before .before .before .before .percentile-check .ensures) ∙ ap checkNumber (c .before .before .enum-told .given .1)) .0 .types .bucketClaims
+widened-requires c κs = sound-facts _ (is-so (c .before .before .before .before .before .before .before .before)) .types .bucketClaims
 
 percentile-of-requires : tie.Need-percentile-of-requires
-unfolding grounds notSound perMilleOutside nothingToDivide boardClaims boardWaited sourceClaims sourceWaited bucketClaims bucketTicks
+unfolding boardClaims boardWaited sourceClaims sourceWaited bucketClaims bucketTicks
 percentile-of-requires c κs =
-    let s = c .before .before .before .before .before .before .before .before .before .before .before .args .t1 in
-    let passed = claim-ready s (c .before .before .before .before .before .before .before .before .before .before .before .args .per-mille) (ap₂ (λ (t : Bool) (n : ℕ). firstOf (percentileGrounds t (c .before .before .before .before .before .before .before .before .before .before .before .args .per-mille) n)) (sym (c .before .before .before .before .before .before .before .is-sound .ensures)) (sym (c .before .before .before .before .before .before .before .before .source-total .ensures)) ∙ sym (c .before .before .before .before .before .before .percentile-check .ensures) ∙ ap checkNumber (c .before .before .before .before .enum-told .given .1)) in
-    let all = c .before .before .before .before .before .before .before .before .source-total .ensures ∙ passed .0 .claimsBooked in
-    (passed .1, all ∙ sym (ap (λ (l : List ℕ). sumTo (λ k. getD l k 0) 33) (c .before .widened .ensures)), omega (arith, c .before .before .before .before .before .before .before .before .source-total .ensures, claims-fit s (passed .0)))
+    let d = c .before .before .before .before .before .before .before in
+    let e = d .before .before .before in
+    let a = e .before .before .args in
+    let none = sym (c .before .before .before .before .before .before .percentile-check .ensures) ∙ ap checkNumber (c .before .before .before .before .enum-told .given .1) in
+    let facts = sound-facts (a .t1) (is-so e) in
+    let all = d .source-total .ensures ∙ facts .claimsBooked in
+    (percentile-passed (a .per-mille) (d .source-total .result) none, all ∙ sym (ap (λ (l : List ℕ). sumTo (λ k. getD l k 0) bucketRoom) (c .before .widened .ensures)), omega (arith, d .source-total .ensures, claims-fit (a .t1) facts))
 
-returns : tie.Need-returns
-unfolding answered answerNumber answerValues valuesOf grounds notSound perMilleOutside nothingToDivide boardClaims boardWaited sourceClaims sourceWaited
-returns c =
-    ap answered (c .refused .ensures)
-    ∙ sym (refused-as (byClaim (c .before .before .before .before .before .before .before .before .before .args .per-mille)) (c .before .before .before .before .before .before .before .before .before .args .t1) (c .before .before .check .given .0 .0) (ap₂ (λ (t : Bool) (n : ℕ). firstOf (percentileGrounds t (c .before .before .before .before .before .before .before .before .before .args .per-mille) n)) (sym (c .before .before .before .before .before .is-sound .ensures)) (sym (c .before .before .before .before .before .before .source-total .ensures)) ∙ sym (c .before .before .before .before .percentile-check .ensures) ∙ ap checkNumber (c .before .before .check .given .1)))
+given-requires : tie.Need-given-requires
+given-requires c κs = search needs
 
 returns-2 : tie.Need-returns-2
-unfolding answered answerNumber answerValues valuesOf after effect isStep bucketClaims bucketTicks grounds notSound perMilleOutside nothingToDivide boardClaims boardWaited sourceClaims sourceWaited
+unfolding valuesOf
 returns-2 c =
-    let s = c .before .before .before .before .before .before .before .before .before .before .before .before .args .t1 in
-    (λ i. record { number = 0; values = (c .percentile-of .ensures ∙ ap (λ (l : List ℕ). percentile (λ k. getD l k 0) (c .before .before .before .before .before .before .before .before .before .before .before .before .args .per-mille)) (c .before .before .widened .ensures)) i ∷ []; state = s })
-    ∙ sym (accepted-as (byClaim (c .before .before .before .before .before .before .before .before .before .before .before .before .args .per-mille)) s (ap₂ (λ (t : Bool) (n : ℕ). firstOf (percentileGrounds t (c .before .before .before .before .before .before .before .before .before .before .before .before .args .per-mille) n)) (sym (c .before .before .before .before .before .before .before .before .is-sound .ensures)) (sym (c .before .before .before .before .before .before .before .before .before .source-total .ensures)) ∙ sym (c .before .before .before .before .before .before .before .percentile-check .ensures) ∙ ap checkNumber (c .before .before .before .before .before .enum-told .given .1)))
+    let d = c .before .before .before .before .before in
+    let e = d .before .before .before in
+    let s = e .before .before in
+    let why = c .before .before .check .given in
+    let number = sym (c .before .before .before .before .percentile-check .ensures) ∙ ap checkNumber (why .1) in
+    says-refused (claim-owns (s .args .t1) (s .args .per-mille)) refl (why .0 .0) (c .refused2 .result) (is-so e)
+    (sym (own d (s .args .per-mille)) ∙ number) (c .refused2 .ensures)
+
+returns-3 : tie.Need-returns-3
+unfolding valuesOf after effect isStep bucketClaims bucketTicks
+returns-3 c =
+    let d = c .before .before .before .before .before .before .before .before .before in
+    let e = d .before .before .before in
+    let a = e .before .before .args in
+    let none = sym (c .before .before .before .before .before .before .before .before .percentile-check .ensures) ∙ ap checkNumber (c .before .before .before .before .before .before .enum-told .given .1) in
+    let value = c .before .percentile-of .ensures ∙ ap (λ (l : List ℕ). percentile (λ k. getD l k 0) (a .per-mille)) (c .before .before .before .widened .ensures) in
+    says-accepted (claim-owns (a .t1) (a .per-mille)) _ (is-so e) (sym (own d (a .per-mille)) ∙ none)
+    (given-as (byClaim (a .per-mille)) (a .t1) (c .before .percentile-of .result) (c .given .result) (ap (λ (k : ℕ). k ∷ []) (sym value)) (c .given .ensures))
 
 pub by-claim-spec : {M : Type 1} → statement M
 by-claim-spec =
     tie.close
     (tie.spec
-    source-total-requires
     is-sound-requires
+    refused-requires
+    returns
+    source-total-requires
     percentile-check-requires
     enum-known-check
-    refused-requires
+    refused-requires-2
     enum-told
     widened-requires
     percentile-of-requires
-    returns
-    returns-2)
+    given-requires
+    returns-2
+    returns-3)

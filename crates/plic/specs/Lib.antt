@@ -1,4 +1,0 @@
-pub mod Leaves
-pub mod Arrays
-pub mod Checks
-pub mod Engine
