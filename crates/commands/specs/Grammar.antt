@@ -5,6 +5,7 @@ use mathlib.Core.List.{List, [], _∷_}
 use Prim.Native.Nat.{ℕ, _+_, _-_, _*_}
 use lib.Dec.{leb, ltb, eqb}
 use lib.ListN.{length}
+use Rattle.limits.specs.Limits.{lineRoom}
 use Rattle.commands.specs.declared.Command.{Command}
 use Rattle.commands.specs.declared.Command.the-variants.{Make, Line, Advance, Read, Write, Notify, Unreadable}
 use Rattle.commands.specs.declared.Opening.{Opening}
@@ -107,7 +108,7 @@ ofWords long (w ∷ a ∷ b ∷ c ∷ d ∷ e ∷ ws) = Unreadable
 
 -- "Lines over 255 bytes without the line feed, empty lines and all else not of these forms are unreadable."
 unfoldable pub commandOf : List ℕ → Command
-commandOf line = cond (ltb 255 (length line)) Unreadable (ofWords (length line) (words line))
+commandOf line = cond (ltb lineRoom (length line)) Unreadable (ofWords (length line) (words line))
 
 -- "`P N C b kinds` must come first (any other first line is unreadable)"
 unfoldable pub openingOf : Command → Opening

@@ -29,11 +29,11 @@ pub enum Opening {
     Unreadable,
 }
 
-// The letter of a line of 2 to 255 bytes whose second is a space; 0 for any other line.
+// The letter of a line of two bytes or more, not too long, whose second is a space; 0 for any other line.
 fn letter_of(line: &[u8]) -> u8
     ensures { λ r. ⌜ r ≡ letterOf (now (line .entry)) ⌝ }
 {
-    if 255 < line.len() {
+    if limits::LINE_ROOM < line.len() {
         return 0;
     }
     if line.len() < 2 {
