@@ -15,6 +15,7 @@ use borrow.Author.Tests.{leb-true, leb-false, ltb-true, ltb-false}
 use Rattle.laws.proofs.Truth.{dichotomy, cond-not}
 use Rattle.commands.specs.declared.Command.{Command}
 use Rattle.commands.specs.declared.Command.the-variants.{Unreadable}
+use Rattle.commands.specs.declared.scan.Value.{Value}
 use Rattle.commands.specs.declared.scan.Value.the-variants.{Is, Nothing}
 use Rattle.commands.specs.Grammar.{joinFirst, words, isNumber, noNeedlessZero, isOffset}
 use Rattle.commands.specs.Leaves.{firstWord, valueOf, valued, ended}
@@ -68,15 +69,15 @@ missing false x y k h = refl
 
 module _ (form : List ℕ → Bool) (value : List ℕ → ℕ) (f : ℕ → List (List ℕ) → Command) (l : List ℕ) (at : ℕ) where
   -- where the word at a place is of the form, what is asked for is what its value and the words after it ask for
-  value-found : (v e : ℕ) → valueOf form value (drop at l) at ≡ Is v e →
+  value-found : {v e : ℕ} → valueOf form value (drop at l) at ≡ Is v e →
       valued form value f (words (drop at l)) ≡ f v (wordsAfter (drop e l))
   unfolding valueOf valued
-  value-found v e h =
+  value-found {v} {e} h =
       ap (valued form value f) (words-at l at)
       ∙ found (form (firstWord (drop at l))) (value (firstWord (drop at l))) (at + length (firstWord (drop at l))) v e
       (λ x y. f x (wordsAfter (drop y l))) h
 
-  pub value-missing : valueOf form value (drop at l) at ≡ Nothing → valued form value f (words (drop at l)) ≡ Unreadable
+  value-missing : valueOf form value (drop at l) at ≡ Nothing → valued form value f (words (drop at l)) ≡ Unreadable
   unfolding valueOf valued
   value-missing h =
       ap (valued form value f) (words-at l at)
@@ -95,7 +96,7 @@ module _ (form : List ℕ → Bool) (empty : form [] ≡ false) (l : List ℕ) (
       ap (λ (k : List ℕ). cond (form (firstWord k)) (Is x y) Nothing) p ∙ cond-not _ _ empty in
       let z : _≡_ {A = ℕ} 0 1 = cc in omega arith
 
-  pub value-within : (value : List ℕ → ℕ) (at : ℕ) → valueOf form value (drop at l) at ≡ Is v e → e ≤ length l
+  value-within : (value : List ℕ → ℕ) (at : ℕ) → valueOf form value (drop at l) at ≡ Is v e → e ≤ length l
   unfolding valueOf
   value-within value at h = ⊎-elim
       (λ t. ends-within (form (firstWord (drop at l))) _ _
@@ -142,18 +143,27 @@ pub empty-valued : (form : List ℕ → Bool) (value : List ℕ → ℕ) (f : �
 unfolding valued
 empty-valued form value f empty = sym (cond-not _ _ empty)
 
-module _ (form : List ℕ → Bool) (value : List ℕ → ℕ) (l : List ℕ) (at v e : ℕ) (here : valueOf form value (drop at l) at ≡ Is v e) where
-  -- a word of the form that is not the last: what the words from the next place on ask for
-  pub value-next : (f : ℕ → List (List ℕ) → Command) → f v [] ≡ f v ([] ∷ []) →
-      valued form value f (words (drop at l)) ≡ f v (words (drop (e + 1) l))
-  value-next f same = value-found form value f l at v e here ∙ next-words (f v) l e same
+-- what a line asks for, by what is found where a word of a form is looked for
+module _ (form : List ℕ → Bool) (value : List ℕ → ℕ) (empty : form [] ≡ false) (l : List ℕ) (at : ℕ)
+    {here : Value} (is : here ≡ valueOf form value (drop at l) at) where
+  -- nothing
+  pub word-missing : (f : ℕ → List (List ℕ) → Command) → here ≡ Nothing → Unreadable ≡ valued form value f (words (drop at l))
+  word-missing f h = sym (value-missing form value f l at (sym is ∙ h))
 
-  -- and one that is to be the last
-  pub value-last : (k : ℕ → Command) → e ≡ length l → valued form value (λ n. ended (k n)) (words (drop at l)) ≡ k v
-  value-last k h = value-found form value (λ n. ended (k n)) l at v e here ∙ last-word (k v) l e h
+  module _ {v e : ℕ} (h : here ≡ Is v e) where
+    -- a word: it ends within the line, and asks for what the words from the next place on ask for
+    pub word-within : e ≤ length l
+    word-within = value-within form empty l v e value at (sym is ∙ h)
 
-  pub value-not-last : (k : ℕ → Command) → form [] ≡ false → (e ≡ length l → ⊥) →
-      valued form value (λ n. ended (k n)) (words (drop at l)) ≡ Unreadable
-  value-not-last k empty h =
-      let within : e ≤ length l = value-within form empty l v e value at here in
-      value-found form value (λ n. ended (k n)) l at v e here ∙ not-last-word (k v) l e (omega arith)
+    pub word-next : (f : ℕ → List (List ℕ) → Command) → f v [] ≡ f v ([] ∷ []) →
+        valued form value f (words (drop at l)) ≡ f v (words (drop (e + 1) l))
+    word-next f same = value-found form value f l at (sym is ∙ h) ∙ next-words (f v) l e same
+
+    -- a word after which none is asked for: it is the last, or it is not
+    pub word-last : (k : ℕ → Command) → e ≡ length l → k v ≡ valued form value (λ n. ended (k n)) (words (drop at l))
+    word-last k end = sym (value-found form value (λ n. ended (k n)) l at (sym is ∙ h) ∙ last-word (k v) l e end)
+
+    pub word-not-last : (k : ℕ → Command) → (e ≡ length l → ⊥) → Unreadable ≡ valued form value (λ n. ended (k n)) (words (drop at l))
+    word-not-last k more =
+        let within = word-within in
+        sym (value-found form value (λ n. ended (k n)) l at (sym is ∙ h) ∙ not-last-word (k v) l e (omega arith))

@@ -7,16 +7,15 @@ use native.Mathlib.Omega.{arith}
 use lib.ListN.{length}
 use Rattle.commands.specs.Grammar.{isNumber, decimal}
 use Rattle.commands.specs.Leaves.{levelOf, lineOf}
-use Rattle.commands.proofs.Words.{value-missing, value-within, value-next, empty-number}
+use Rattle.commands.proofs.Words.{empty-number, word-missing, word-within, word-next}
 use Rattle.commands.proofs.Last.{empty-level}
 use Rattle.commands.proofs.forms.line_of.Statement.{statement}
 use Rattle.commands.proofs.forms.line_of.Tie as tie
 
 source-within : (c : tie.After-known-told) → c .before .source .given .0 .1 .0 ≤ length (c .before .before .before .before .before .args .line .now)
 source-within c =
-    let word = c .before .source .given in
-    let here = sym (c .before .before .before .number-at .ensures) ∙ word .1 in
-    value-within isNumber empty-number (c .before .before .before .before .before .args .line .now) (word .0 .0) (word .0 .1 .0) decimal 2 here
+    let d = c .before .before .before in
+    word-within isNumber decimal empty-number (d .before .before .args .line .now) 2 (d .number-at .ensures) (c .before .source .given .1)
 
 number-at-requires : tie.Need-number-at-requires
 number-at-requires c κs = search needs
@@ -30,8 +29,8 @@ enum-told c = search needs
 returns : tie.Need-returns
 unfolding lineOf
 returns c =
-    let missing = sym (c .before .before .number-at .ensures) ∙ c .enum-told .given .1 in
-    sym (value-missing isNumber decimal levelOf (c .before .before .before .before .args .line .now) 2 missing)
+    let d = c .before .before in
+    word-missing isNumber decimal empty-number (d .before .before .args .line .now) 2 (d .number-at .ensures) levelOf (c .enum-told .given .1)
 
 add-level-at : tie.Need-add-level-at
 add-level-at c = omega (arith, source-within c)
@@ -43,9 +42,9 @@ returns-2 : tie.Need-returns-2
 unfolding lineOf
 returns-2 c =
     let word = c .before .before .source .given in
-    let here = sym (c .before .before .before .before .number-at .ensures) ∙ word .1 in
+    let d = c .before .before .before .before in
     c .level-at .ensures
-    ∙ sym (value-next isNumber decimal (c .before .before .before .before .before .before .args .line .now) 2 (word .0 .0) (word .0 .1 .0) here levelOf (empty-level (word .0 .0)))
+    ∙ sym (word-next isNumber decimal empty-number (d .before .before .args .line .now) 2 (d .number-at .ensures) (word .1) levelOf (empty-level (word .0 .0)))
 
 pub line-of-spec : {M : Type 1} → statement M
 line-of-spec =

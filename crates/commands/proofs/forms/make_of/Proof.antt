@@ -7,10 +7,11 @@ use Prim.Native.Nat.{ℕ, _+_, _≤_}
 use native.Mathlib.Omega.{arith}
 use lib.ListN.{length, drop}
 use Rattle.commands.specs.declared.Command.{Command}
+use Rattle.commands.specs.declared.scan.Value.{Value}
 use Rattle.commands.specs.declared.scan.Value.the-variants.{Is}
 use Rattle.commands.specs.Grammar.{isNumber, decimal, words}
 use Rattle.commands.specs.Leaves.{valued, kindsOf, makeOf, numberAt}
-use Rattle.commands.proofs.Words.{value-missing, value-within, value-next, empty-valued, empty-number}
+use Rattle.commands.proofs.Words.{empty-valued, empty-number, word-missing, word-within, word-next}
 use Rattle.commands.proofs.Last.{empty-kinds, kinds-so, kinds-not}
 use Rattle.commands.proofs.forms.make_of.Statement.{statement}
 use Rattle.commands.proofs.forms.make_of.Tie as tie
@@ -52,10 +53,10 @@ abbrev bits-of : ℕ → ℕ → ℕ → List (List ℕ) → Command
 bits-of long x y = valued isNumber decimal (λ z. kindsOf long x y z)
 
 -- past a number: what the words from the next place on ask for, and that the number ends within the line
-past : (f : ℕ → List (List ℕ) → Command) (l : List ℕ) (at v e : ℕ) → numberAt l at ≡ Is v e → f v [] ≡ f v ([] ∷ []) →
-    (valued isNumber decimal f (words (drop at l)) ≡ f v (words (drop (e + 1) l))) × (e ≤ length l)
-past f l at v e here same =
-    (value-next isNumber decimal l at v e here f same, value-within isNumber empty-number l v e decimal at here)
+past : (f : ℕ → List (List ℕ) → Command) (l : List ℕ) (at : ℕ) {here : Value} {v e : ℕ} → here ≡ numberAt l at → here ≡ Is v e →
+    f v [] ≡ f v ([] ∷ []) → (valued isNumber decimal f (words (drop at l)) ≡ f v (words (drop (e + 1) l))) × (e ≤ length l)
+past f l at is here same =
+    (word-next isNumber decimal empty-number l at is here f same, word-within isNumber decimal empty-number l at is here)
 
 -- what the line asks for, by the words from the place after e on
 abbrev Asks : List ℕ → ℕ → (List (List ℕ) → Command) → Type 0
@@ -64,15 +65,15 @@ Asks l e f = (makeOf (length l) (words (drop 2 l)) ≡ f (words (drop (e + 1) l)
 sources-known : (c : tie.After-known-told) → Asks (text c) (n-end c) (contexts-of (length (text c)) (n c))
 unfolding makeOf
 sources-known c =
-    past (contexts-of (length (text c))) (text c) 2 (n c) (n-end c) (sym (c .before .before .before .number-at .ensures) ∙ c .before .sources .given .1)
+    past (contexts-of (length (text c))) (text c) 2 (c .before .before .before .number-at .ensures) (c .before .sources .given .1)
     (empty-valued isNumber decimal (bits-of (length (text c)) (n c)) empty-number)
 
 contexts-known : (c : tie.After-known-told2) →
     Asks (text (first c)) (m-end c) (bits-of (length (text (first c))) (n (first c)) (m c))
 contexts-known c =
     let s = first c in
-    let next = past (bits-of (length (text s)) (n s)) (text s) (n-end s + 1) (m c) (m-end c)
-    (sym (c .before .before .before .number-at2 .ensures) ∙ c .before .contexts .given .1)
+    let next = past (bits-of (length (text s)) (n s)) (text s) (n-end s + 1)
+    (c .before .before .before .number-at2 .ensures) (c .before .contexts .given .1)
     (empty-valued isNumber decimal (kindsOf (length (text s)) (n s) (m c)) empty-number) in
     (sources-known s .0 ∙ next .0, next .1)
 
@@ -82,8 +83,8 @@ bits-known : (c : tie.After-known-told3) →
 bits-known c =
     let s = first (second c) in
     let t = second c in
-    let next = past (kindsOf (length (text s)) (n s) (m t)) (text s) (m-end t + 1) (k c) (k-end c)
-    (sym (c .before .before .before .number-at3 .ensures) ∙ c .before .bits .given .1)
+    let next = past (kindsOf (length (text s)) (n s) (m t)) (text s) (m-end t + 1)
+    (c .before .before .before .number-at3 .ensures) (c .before .bits .given .1)
     (empty-kinds (length (text s)) (n s) (m t) (k c)) in
     (contexts-known t .0 ∙ next .0, next .1)
 
@@ -99,9 +100,9 @@ enum-told c = search needs
 returns : tie.Need-returns
 unfolding makeOf
 returns c =
-    let l = c .before .before .before .before .args .line .now in
-    let missing = sym (c .before .before .number-at .ensures) ∙ c .enum-told .given .1 in
-    sym (value-missing isNumber decimal (contexts-of (length l)) l 2 missing)
+    let d = c .before .before in
+    let l = d .before .before .args .line .now in
+    word-missing isNumber decimal empty-number l 2 (d .number-at .ensures) (contexts-of (length l)) (c .enum-told .given .1)
 
 add-number-at : tie.Need-add-number-at
 add-number-at c = omega (arith, sources-known c .1)
@@ -118,8 +119,9 @@ enum-told-2 c = search needs
 returns-2 : tie.Need-returns-2
 returns-2 c =
     let s = c .before .before .before in
-    let missing = sym (c .before .before .number-at2 .ensures) ∙ c .enum-told2 .given .1 in
-    sym (sources-known s .0 ∙ value-missing isNumber decimal (bits-of (length (text s)) (n s)) (text s) (n-end s + 1) missing)
+    word-missing isNumber decimal empty-number (text s) (n-end s + 1) (c .before .before .number-at2 .ensures)
+    (bits-of (length (text s)) (n s)) (c .enum-told2 .given .1)
+    ∙ sym (sources-known s .0)
 
 add-number-at-2 : tie.Need-add-number-at-2
 add-number-at-2 c = omega (arith, contexts-known c .1)
@@ -137,8 +139,9 @@ returns-3 : tie.Need-returns-3
 returns-3 c =
     let t = c .before .before .before in
     let s = first t in
-    let missing = sym (c .before .before .number-at3 .ensures) ∙ c .enum-told3 .given .1 in
-    sym (contexts-known t .0 ∙ value-missing isNumber decimal (kindsOf (length (text s)) (n s) (m t)) (text s) (m-end t + 1) missing)
+    word-missing isNumber decimal empty-number (text s) (m-end t + 1) (c .before .before .number-at3 .ensures)
+    (kindsOf (length (text s)) (n s) (m t)) (c .enum-told3 .given .1)
+    ∙ sym (contexts-known t .0)
 
 add-kinds-at : tie.Need-add-kinds-at
 add-kinds-at c = omega (arith, bits-known c .1)

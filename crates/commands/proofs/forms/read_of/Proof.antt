@@ -1,12 +1,11 @@
 -- `forms::read_of` meets its contract: no offset; an offset that ends the line; or one that does not.
 -- Assumes nothing.
 use borrow.Author.Needs.{needs}
-use mathlib.Core.Path.{_∙_, sym}
 use native.Mathlib.Omega.{arith}
 use Rattle.commands.specs.declared.Command.the-variants.{Read}
 use Rattle.commands.specs.Grammar.{isOffset, hex}
 use Rattle.commands.specs.Leaves.{ended, readOf}
-use Rattle.commands.proofs.Words.{value-missing, value-last, value-not-last, empty-offset}
+use Rattle.commands.proofs.Words.{empty-offset, word-missing, word-last, word-not-last}
 use Rattle.commands.proofs.forms.read_of.Statement.{statement}
 use Rattle.commands.proofs.forms.read_of.Tie as tie
 
@@ -22,22 +21,22 @@ enum-told c = search needs
 returns : tie.Need-returns
 unfolding readOf
 returns c =
-    let missing = sym (c .before .before .offset-at .ensures) ∙ c .enum-told .given .1 in
-    sym (value-missing isOffset hex (λ n. ended (Read n)) (c .before .before .before .before .args .line .now) 2 missing)
+    let d = c .before .before in
+    word-missing isOffset hex empty-offset (d .before .before .args .line .now) 2 (d .offset-at .ensures) (λ n. ended (Read n)) (c .enum-told .given .1)
 
 returns-2 : tie.Need-returns-2
 unfolding readOf
 returns-2 c =
-    let word = c .before .before .offset .given in
-    let here = sym (c .before .before .before .before .offset-at .ensures) ∙ word .1 in
-    sym (value-last isOffset hex (c .before .before .before .before .before .before .args .line .now) 2 (word .0 .0) (word .0 .1 .0) here Read (c .if1 .taken))
+    let d = c .before .before in
+    let e = d .before .before in
+    word-last isOffset hex empty-offset (e .before .before .args .line .now) 2 (e .offset-at .ensures) (d .offset .given .1) Read (c .if1 .taken)
 
 returns-3 : tie.Need-returns-3
 unfolding readOf
 returns-3 c =
-    let word = c .before .before .offset .given in
-    let here = sym (c .before .before .before .before .offset-at .ensures) ∙ word .1 in
-    sym (value-not-last isOffset hex (c .before .before .before .before .before .before .args .line .now) 2 (word .0 .0) (word .0 .1 .0) here Read empty-offset (c .if1 .left))
+    let d = c .before .before in
+    let e = d .before .before in
+    word-not-last isOffset hex empty-offset (e .before .before .args .line .now) 2 (e .offset-at .ensures) (d .offset .given .1) Read (c .if1 .left)
 
 pub read-of-spec : {M : Type 1} → statement M
 read-of-spec =

@@ -10,7 +10,7 @@ use Rattle.commands.specs.declared.Command.{Command}
 use Rattle.commands.specs.declared.Command.the-variants.{Write}
 use Rattle.commands.specs.Grammar.{isNumber, decimal, isOffset, hex, words}
 use Rattle.commands.specs.Leaves.{valued, ended, writeOf}
-use Rattle.commands.proofs.Words.{value-missing, value-within, value-next, value-last, value-not-last, empty-valued, empty-number, empty-offset}
+use Rattle.commands.proofs.Words.{empty-valued, empty-number, empty-offset, word-missing, word-within, word-next, word-last, word-not-last}
 use Rattle.commands.proofs.forms.write_of.Statement.{statement}
 use Rattle.commands.proofs.forms.write_of.Tie as tie
 
@@ -32,9 +32,10 @@ offset-known : (c : tie.After-known-told) →
     (writeOf (words (drop 2 (text c))) ≡ value-of (off c) (words (drop (off-end c + 1) (text c)))) × (off-end c ≤ length (text c))
 unfolding writeOf
 offset-known c =
-    let here = sym (c .before .before .before .offset-at .ensures) ∙ c .before .offset .given .1 in (
-      value-next isOffset hex (text c) 2 (off c) (off-end c) here value-of (empty-valued isNumber decimal _ empty-number),
-      value-within isOffset empty-offset (text c) (off c) (off-end c) hex 2 here,
+    let is = c .before .before .before .offset-at .ensures in
+    let here = c .before .offset .given .1 in (
+      word-next isOffset hex empty-offset (text c) 2 is here value-of (empty-valued isNumber decimal _ empty-number),
+      word-within isOffset hex empty-offset (text c) 2 is here,
     )
 
 offset-at-requires : tie.Need-offset-at-requires
@@ -49,8 +50,8 @@ enum-told c = search needs
 returns : tie.Need-returns
 unfolding writeOf
 returns c =
-    let missing = sym (c .before .before .offset-at .ensures) ∙ c .enum-told .given .1 in
-    sym (value-missing isOffset hex value-of (c .before .before .before .before .args .line .now) 2 missing)
+    let d = c .before .before in
+    word-missing isOffset hex empty-offset (d .before .before .args .line .now) 2 (d .offset-at .ensures) value-of (c .enum-told .given .1)
 
 add-number-at : tie.Need-add-number-at
 add-number-at c = omega (arith, offset-known c .1)
@@ -67,24 +68,25 @@ enum-told-2 c = search needs
 returns-2 : tie.Need-returns-2
 returns-2 c =
     let k = c .before .before .before in
-    let missing = sym (c .before .before .number-at .ensures) ∙ c .enum-told2 .given .1 in
-    sym (offset-known k .0 ∙ value-missing isNumber decimal (λ n. ended (Write (off k) n)) (text k) (off-end k + 1) missing)
+    word-missing isNumber decimal empty-number (text k) (off-end k + 1) (c .before .before .number-at .ensures)
+    (λ n. ended (Write (off k) n)) (c .enum-told2 .given .1)
+    ∙ sym (offset-known k .0)
 
 returns-3 : tie.Need-returns-3
 returns-3 c =
-    let k = c .before .before .before .before .before in
-    let word = c .before .before .value .given in
-    let here = sym (c .before .before .before .before .number-at .ensures) ∙ word .1 in
-    sym (offset-known k .0
-    ∙ value-last isNumber decimal (text k) (off-end k + 1) (word .0 .0) (word .0 .1 .0) here (Write (off k)) (c .if1 .taken))
+    let d = c .before .before in
+    let k = d .before .before .before in
+    word-last isNumber decimal empty-number (text k) (off-end k + 1) (d .before .before .number-at .ensures) (d .value .given .1)
+    (Write (off k)) (c .if1 .taken)
+    ∙ sym (offset-known k .0)
 
 returns-4 : tie.Need-returns-4
 returns-4 c =
-    let k = c .before .before .before .before .before in
-    let word = c .before .before .value .given in
-    let here = sym (c .before .before .before .before .number-at .ensures) ∙ word .1 in
-    sym (offset-known k .0
-    ∙ value-not-last isNumber decimal (text k) (off-end k + 1) (word .0 .0) (word .0 .1 .0) here (Write (off k)) empty-number (c .if1 .left))
+    let d = c .before .before in
+    let k = d .before .before .before in
+    word-not-last isNumber decimal empty-number (text k) (off-end k + 1) (d .before .before .number-at .ensures) (d .value .given .1)
+    (Write (off k)) (c .if1 .left)
+    ∙ sym (offset-known k .0)
 
 pub write-of-spec : {M : Type 1} → statement M
 write-of-spec =
