@@ -143,27 +143,37 @@ pub empty-valued : (form : List ℕ → Bool) (value : List ℕ → ℕ) (f : �
 unfolding valued
 empty-valued form value f empty = sym (cond-not _ _ empty)
 
--- what a line asks for, by what is found where a word of a form is looked for
+-- what a line asks for by the word at a place: `here` is what is found there, where a word of a form is looked for
+
+-- of a word that is to be the last: nothing is found; it is the last; or it is not
+pub record Only (k : ℕ → Command) (l : List ℕ) (here : Value) (asks : Command) : Type 0 where
+  pub missing : here ≡ Nothing → Unreadable ≡ asks
+  pub last : {v e : ℕ} → here ≡ Is v e → e ≡ length l → k v ≡ asks
+  pub not-last : {v e : ℕ} → here ≡ Is v e → (e ≡ length l → ⊥) → Unreadable ≡ asks
+
+-- of a word that others are to follow: nothing is found; or it ends within the line, and the words from the next place on say the rest
+pub record First (f : ℕ → List (List ℕ) → Command) (l : List ℕ) (here : Value) (asks : Command) : Type 0 where
+  pub missing : here ≡ Nothing → Unreadable ≡ asks
+  pub within : {v e : ℕ} → here ≡ Is v e → e ≤ length l
+  pub next : {v e : ℕ} → here ≡ Is v e → asks ≡ f v (words (drop (e + 1) l))
+
 module _ (form : List ℕ → Bool) (value : List ℕ → ℕ) (empty : form [] ≡ false) (l : List ℕ) (at : ℕ)
     {here : Value} (is : here ≡ valueOf form value (drop at l) at) where
-  -- nothing
-  pub word-missing : (f : ℕ → List (List ℕ) → Command) → here ≡ Nothing → Unreadable ≡ valued form value f (words (drop at l))
-  word-missing f h = sym (value-missing form value f l at (sym is ∙ h))
+  ends-in : {v e : ℕ} → here ≡ Is v e → e ≤ length l
+  ends-in {v} {e} h = value-within form empty l v e value at (sym is ∙ h)
 
-  module _ {v e : ℕ} (h : here ≡ Is v e) where
-    -- a word: it ends within the line, and asks for what the words from the next place on ask for
-    pub word-within : e ≤ length l
-    word-within = value-within form empty l v e value at (sym is ∙ h)
+  pub only : (k : ℕ → Command) → Only k l here (valued form value (λ n. ended (k n)) (words (drop at l)))
+  only k = record {
+    missing = λ h. sym (value-missing form value (λ n. ended (k n)) l at (sym is ∙ h));
+    last = λ {v} {e} h end. sym (value-found form value (λ n. ended (k n)) l at (sym is ∙ h) ∙ last-word (k v) l e end);
+    not-last = λ {v} {e} h more.
+        let within = ends-in h in
+        sym (value-found form value (λ n. ended (k n)) l at (sym is ∙ h) ∙ not-last-word (k v) l e (omega arith));
+  }
 
-    pub word-next : (f : ℕ → List (List ℕ) → Command) → f v [] ≡ f v ([] ∷ []) →
-        valued form value f (words (drop at l)) ≡ f v (words (drop (e + 1) l))
-    word-next f same = value-found form value f l at (sym is ∙ h) ∙ next-words (f v) l e same
-
-    -- a word after which none is asked for: it is the last, or it is not
-    pub word-last : (k : ℕ → Command) → e ≡ length l → k v ≡ valued form value (λ n. ended (k n)) (words (drop at l))
-    word-last k end = sym (value-found form value (λ n. ended (k n)) l at (sym is ∙ h) ∙ last-word (k v) l e end)
-
-    pub word-not-last : (k : ℕ → Command) → (e ≡ length l → ⊥) → Unreadable ≡ valued form value (λ n. ended (k n)) (words (drop at l))
-    word-not-last k more =
-        let within = word-within in
-        sym (value-found form value (λ n. ended (k n)) l at (sym is ∙ h) ∙ not-last-word (k v) l e (omega arith))
+  pub first : (f : ℕ → List (List ℕ) → Command) → ((v : ℕ) → f v [] ≡ f v ([] ∷ [])) → First f l here (valued form value f (words (drop at l)))
+  first f same = record {
+    missing = λ h. sym (value-missing form value f l at (sym is ∙ h));
+    within = λ h. ends-in h;
+    next = λ {v} {e} h. value-found form value f l at (sym is ∙ h) ∙ next-words (f v) l e (same v);
+  }

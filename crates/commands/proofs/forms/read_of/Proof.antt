@@ -2,12 +2,17 @@
 -- Assumes nothing.
 use borrow.Author.Needs.{needs}
 use native.Mathlib.Omega.{arith}
+use lib.ListN.{drop}
 use Rattle.commands.specs.declared.Command.the-variants.{Read}
-use Rattle.commands.specs.Grammar.{isOffset, hex}
-use Rattle.commands.specs.Leaves.{ended, readOf}
-use Rattle.commands.proofs.Words.{empty-offset, word-missing, word-last, word-not-last}
+use Rattle.commands.specs.Grammar.{isOffset, hex, words}
+use Rattle.commands.specs.Leaves.{readOf}
+use Rattle.commands.proofs.Words.{empty-offset, Only, only}
 use Rattle.commands.proofs.forms.read_of.Statement.{statement}
 use Rattle.commands.proofs.forms.read_of.Tie as tie
+
+word : (c : tie.After-offset-at) → let l = c .before .before .args .line .now in Only Read l (c .offset-at .result) (readOf (words (drop 2 l)))
+unfolding readOf
+word c = only isOffset hex empty-offset (c .before .before .args .line .now) 2 (c .offset-at .ensures) Read
 
 offset-at-requires : tie.Need-offset-at-requires
 offset-at-requires c κs = omega arith
@@ -19,24 +24,13 @@ enum-told : tie.Need-enum-told
 enum-told c = search needs
 
 returns : tie.Need-returns
-unfolding readOf
-returns c =
-    let d = c .before .before in
-    word-missing isOffset hex empty-offset (d .before .before .args .line .now) 2 (d .offset-at .ensures) (λ n. ended (Read n)) (c .enum-told .given .1)
+returns c = word (c .before .before) .missing (c .enum-told .given .1)
 
 returns-2 : tie.Need-returns-2
-unfolding readOf
-returns-2 c =
-    let d = c .before .before in
-    let e = d .before .before in
-    word-last isOffset hex empty-offset (e .before .before .args .line .now) 2 (e .offset-at .ensures) (d .offset .given .1) Read (c .if1 .taken)
+returns-2 c = word (c .before .before .before .before) .last (c .before .before .offset .given .1) (c .if1 .taken)
 
 returns-3 : tie.Need-returns-3
-unfolding readOf
-returns-3 c =
-    let d = c .before .before in
-    let e = d .before .before in
-    word-not-last isOffset hex empty-offset (e .before .before .args .line .now) 2 (e .offset-at .ensures) (d .offset .given .1) Read (c .if1 .left)
+returns-3 c = word (c .before .before .before .before) .not-last (c .before .before .offset .given .1) (c .if1 .left)
 
 pub read-of-spec : {M : Type 1} → statement M
 read-of-spec =
