@@ -1,7 +1,8 @@
 //! Demand 3's account: from the log of a run alone, what the sums must be; then
 //! that the state's sums are these.
 
-use crate::model::{BUCKET_ROOM, Controller, Source};
+use crate::limits::BUCKET_ROOM;
+use crate::model::{Controller, Source};
 use std::collections::BTreeMap;
 
 /// What a run leaves in its log.

@@ -1,10 +1,10 @@
 //! The fields of a state as the probe's language names them, in the order in
 //! which it shows them.
 
-use crate::model::{CONTEXT_ROOM, Controller, Kind, LAST_32, SOURCE_ROOM, Stage, pack, unpack};
+use crate::limits::{BUCKET_ROOM, CONTEXT_ROOM, SOURCE_ROOM, WORD_ROOM};
+use crate::model::{Controller, Kind, LAST_32, Stage, pack, unpack};
 
 const BYTE: u64 = 255;
-const WORDS_A_CONTEXT: usize = 4;
 
 pub struct Field {
     pub name: &'static str,
@@ -30,7 +30,7 @@ pub const FIELDS: [Field; 17] = [
     of_source("start", LAST_32, |c, i| c.sources[i].start, |c, i, v| c.sources[i].start = v),
     of_source("claims", LAST_32, |c, i| c.sources[i].claims, |c, i, v| c.sources[i].claims = v),
     of_source("waited", LAST_32, |c, i| c.sources[i].waited, |c, i, v| c.sources[i].waited = v),
-    Field { name: "enable", places: CONTEXT_ROOM * WORDS_A_CONTEXT, limit: LAST_32, get: enable_word, set: set_enable_word },
+    Field { name: "enable", places: CONTEXT_ROOM * WORD_ROOM, limit: LAST_32, get: enable_word, set: set_enable_word },
     Field {
         name: "threshold",
         places: CONTEXT_ROOM,
@@ -54,16 +54,16 @@ const fn of_source(name: &'static str, limit: u64, get: Get, set: Set) -> Field 
 }
 
 const fn of_bucket(name: &'static str, limit: u64, get: Get, set: Set) -> Field {
-    Field { name, places: crate::model::BUCKET_ROOM, limit, get, set }
+    Field { name, places: BUCKET_ROOM, limit, get, set }
 }
 
 fn enable_word(c: &Controller, index: usize) -> u64 {
-    let (context, word) = (index / WORDS_A_CONTEXT, index % WORDS_A_CONTEXT);
+    let (context, word) = (index / WORD_ROOM, index % WORD_ROOM);
     pack(word as u64, |id| c.contexts[context].enabled.contains(&id))
 }
 
 fn set_enable_word(c: &mut Controller, index: usize, value: u64) {
-    let (context, word) = (index / WORDS_A_CONTEXT, (index % WORDS_A_CONTEXT) as u64);
+    let (context, word) = (index / WORD_ROOM, (index % WORD_ROOM) as u64);
     let enabled = &mut c.contexts[context].enabled;
     enabled.retain(|id| id / 32 != word);
     enabled.extend(unpack(word, value));

@@ -1,6 +1,8 @@
 //! What both generators of scripts share: dice that depend on the seed alone,
 //! boards, and lines of traffic on a board.
 
+use crate::limits::{LAST_SOURCE, MOST_BITS, MOST_CONTEXTS, MOST_WORDS};
+
 /// The last number that a line can hold.
 pub const TOP: u64 = 4_294_967_295;
 
@@ -104,13 +106,14 @@ impl Board {
     }
 
     pub fn small(dice: &mut Dice) -> Board {
-        let (n, c, b) = (dice.below(9) + 1, dice.below(4) + 1, dice.below(5) + 1);
+        let (n, c, b) = (dice.below(9) + 1, dice.below(4) + 1, dice.below(MOST_BITS) + 1);
         Board::new(dice, n, c, b)
     }
 
     /// A shape at the edges of what is allowed.
     pub fn at_the_edge(dice: &mut Dice) -> Board {
-        let (n, c, b) = (dice.pick(&[1, 31, 32, 33, 127]), dice.pick(&[1, 8]), dice.pick(&[1, 5]));
+        let n = dice.pick(&[1, 31, 32, 33, LAST_SOURCE]);
+        let (c, b) = (dice.pick(&[1, MOST_CONTEXTS]), dice.pick(&[1, MOST_BITS]));
         Board::new(dice, n, c, b)
     }
 
@@ -118,7 +121,7 @@ impl Board {
         if dice.chance(50) {
             return Board::small(dice);
         }
-        let (n, c, b) = (dice.below(127) + 1, dice.below(8) + 1, dice.below(5) + 1);
+        let (n, c, b) = (dice.below(LAST_SOURCE) + 1, dice.below(MOST_CONTEXTS) + 1, dice.below(MOST_BITS) + 1);
         Board::new(dice, n, c, b)
     }
 
@@ -190,8 +193,8 @@ impl Board {
     pub fn refused(&self, dice: &mut Dice) -> String {
         let value = dice.any_size(32);
         match dice.below(8) {
-            0 | 1 => format!("L {} {}", dice.pick(&[0, self.n + 1, 128, 255, 256, TOP]), dice.below(2)),
-            2 => format!("N {}", dice.pick(&[self.c, self.c + 1, 8, 9, TOP])),
+            0 | 1 => format!("L {} {}", dice.pick(&[0, self.n + 1, LAST_SOURCE + 1, 255, 256, TOP]), dice.below(2)),
+            2 => format!("N {}", dice.pick(&[self.c, self.c + 1, MOST_CONTEXTS, MOST_CONTEXTS + 1, TOP])),
             3 => format!("T {}", dice.pick(&[TOP, TOP - 1, TOP - 5])),
             4 | 5 => read_at(self.strange_offset(dice)),
             _ => write_at(self.strange_offset(dice), value),
@@ -202,10 +205,11 @@ impl Board {
     pub fn strange_offset(&self, dice: &mut Dice) -> u64 {
         // Far ones are those that a cut number would bring back onto the board.
         let far = (1 << dice.below(13)) + dice.below(self.c);
-        let context = dice.pick(&[0, self.c - 1, self.c, 8, 15871, far, far]);
-        let word = dice.pick(&[0, self.n / 32, self.n / 32 + 1, 4, 5, 31]);
+        let context = dice.pick(&[0, self.c - 1, self.c, MOST_CONTEXTS, 15871, far, far]);
+        let word = dice.pick(&[0, self.n / 32, self.n / 32 + 1, MOST_WORDS, MOST_WORDS + 1, 31]);
+        let beyond = 4 * LAST_SOURCE + 4;
         let places = [
-            dice.pick(&[0, 4 * self.n, 4 * self.n + 4, 0x1FC, 0x200, 0x200 + 4 * self.n, 0xFFC]),
+            dice.pick(&[0, 4 * self.n, 4 * self.n + 4, 4 * LAST_SOURCE, beyond, beyond + 4 * self.n, 0xFFC]),
             dice.pick(&[0x1000, 0x1000 + 4 * word, 0x107C, 0x1080, 0x1FFC]),
             enables_offset(context, word),
             dice.pick(&[0x1F_1FFC, 0x1F_2000, 0x1F_FFFC]),
@@ -225,7 +229,7 @@ impl Board {
     pub fn foreign_value(&self, dice: &mut Dice) -> u64 {
         let id = self.source(dice);
         let high = dice.pick(&[0x80, 0x100, 0x200, 0x8000, 0x1_0000, 0x100_0000, 0x8000_0000, 0xFFFF_FF00]);
-        let outside = dice.pick(&[0, self.n + 1, 127, 128, 255, 256, TOP]);
+        let outside = dice.pick(&[0, self.n + 1, LAST_SOURCE, LAST_SOURCE + 1, 255, 256, TOP]);
         dice.pick(&[id, id, id + high, id + high, outside])
     }
 }
@@ -245,6 +249,6 @@ fn any_priority(dice: &mut Dice) -> u64 {
         0 => dice.any_size(32),
         1 => 0,
         2 => TOP,
-        _ => dice.below(32),
+        _ => dice.below(1 << MOST_BITS),
     }
 }

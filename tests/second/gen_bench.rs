@@ -2,6 +2,7 @@
 //! largest board, with every source enabled in every context.
 
 use crate::gen::{Board, Dice, TOP, claim_offset, enables_offset, read_at, threshold_offset, write_at};
+use crate::limits::{LAST_SOURCE, MOST_BITS, MOST_CONTEXTS, MOST_WORDS};
 
 /// The lines of one turn of the work.
 type Turn = fn(&mut Dice, &Board) -> Vec<String>;
@@ -12,7 +13,7 @@ const KINDS: [(&str, Turn); 4] = [("claims", claims), ("storm", storm), ("idle",
 pub fn script(kind: &str, lines: u64) -> Result<Vec<u8>, String> {
     let (_, turn) = KINDS.iter().find(|(name, _)| *name == kind).ok_or(format!("{kind}: no kind of work"))?;
     let mut dice = Dice::new(1);
-    let board = Board::new(&mut dice, 127, 8, 5);
+    let board = Board::new(&mut dice, LAST_SOURCE, MOST_CONTEXTS, MOST_BITS);
     let mut script = begin(&board);
     while (script.len() as u64) < lines {
         script.extend(turn(&mut dice, &board));
@@ -22,8 +23,10 @@ pub fn script(kind: &str, lines: u64) -> Result<Vec<u8>, String> {
 }
 
 fn begin(board: &Board) -> Vec<String> {
-    let priorities = (1..=board.n).map(|id| write_at(4 * id, 1 + id % 31));
-    let enables = (0..board.c).flat_map(|context| (0..4).map(move |word| write_at(enables_offset(context, word), TOP)));
+    let most = (1 << board.b) - 1;
+    let priorities = (1..=board.n).map(|id| write_at(4 * id, 1 + id % most));
+    let words = |context| (0..MOST_WORDS).map(move |word| write_at(enables_offset(context, word), TOP));
+    let enables = (0..board.c).flat_map(words);
     [board.first_line()].into_iter().chain(priorities).chain(enables).collect()
 }
 
@@ -51,7 +54,7 @@ fn storm(dice: &mut Dice, board: &Board) -> Vec<String> {
 /// Time passes and contexts look, and nothing is there.
 fn idle(dice: &mut Dice, board: &Board) -> Vec<String> {
     let context = dice.below(board.c);
-    let pending = 0x1000 + 4 * dice.below(4);
+    let pending = 0x1000 + 4 * dice.below(MOST_WORDS);
     vec![format!("T {}", dice.below(20)), format!("N {context}"), read_at(claim_offset(context)), read_at(pending)]
 }
 
@@ -59,6 +62,6 @@ fn idle(dice: &mut Dice, board: &Board) -> Vec<String> {
 fn config(dice: &mut Dice, board: &Board) -> Vec<String> {
     let context = dice.below(board.c);
     let priority = 4 * (dice.below(board.n) + 1);
-    let registers = [priority, enables_offset(context, dice.below(4)), threshold_offset(context)];
+    let registers = [priority, enables_offset(context, dice.below(MOST_WORDS)), threshold_offset(context)];
     registers.iter().flat_map(|&offset| [write_at(offset, dice.any_size(32)), read_at(offset)]).collect()
 }

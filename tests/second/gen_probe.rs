@@ -5,6 +5,7 @@
 use crate::field::{self, FIELDS};
 use crate::gen::{Board, Dice, TOP, claim_offset, finish, read_at, write_at};
 use crate::gen_unsound::{BREAKS, EDGES};
+use crate::limits::{BUCKET_ROOM, LAST_SOURCE, MOST_BITS, MOST_CONTEXTS};
 use crate::model::Controller;
 use crate::probe;
 use crate::sound;
@@ -82,8 +83,8 @@ impl Scene {
 
     /// A board whose sources 1, 2 and 3 are of the three kinds, fresh.
     pub fn make_three_kinds(&mut self) {
-        let n = self.dice.pick(&[3, 4, 5, 31, 32, 33, 126, 127]);
-        let (c, b) = (self.dice.below(8) + 1, self.dice.below(5) + 1);
+        let n = self.dice.pick(&[3, 4, 5, 31, 32, 33, LAST_SOURCE - 1, LAST_SOURCE]);
+        let (c, b) = (self.dice.below(MOST_CONTEXTS) + 1, self.dice.below(MOST_BITS) + 1);
         self.board = Board::new(&mut self.dice, n, c, b);
         self.board.kinds.replace_range(0..3, "lec");
         self.board.active.extend([1, 2, 3]);
@@ -100,12 +101,16 @@ impl Scene {
     /// A place for a source that the board does not have.
     pub fn absent(&mut self) -> usize {
         let above = self.board.n + 1;
-        let place = self.dice.pick(&[0, above, 127]);
-        if place == 0 || above > 127 { 0 } else { place as usize }
+        let place = self.dice.pick(&[0, above, LAST_SOURCE]);
+        if place == 0 || above > LAST_SOURCE { 0 } else { place as usize }
     }
 
     pub fn present(&mut self) -> usize {
         self.board.source(&mut self.dice) as usize
+    }
+
+    pub fn bucket(&mut self) -> usize {
+        self.dice.below(BUCKET_ROOM as u64) as usize
     }
 
     fn reports(&mut self) {
@@ -200,7 +205,7 @@ fn reports_on_set_buckets(scene: &mut Scene, _: u64) {
 
 /// Parts of `most` put into random buckets; gives the parts by rising bucket.
 fn spread(scene: &mut Scene, most: u64, name: &'static str) -> Vec<u64> {
-    let mut places: Vec<usize> = (0..4).map(|_| scene.dice.below(33) as usize).collect();
+    let mut places: Vec<usize> = (0..4).map(|_| scene.bucket()).collect();
     places.sort();
     places.dedup();
     let step = most / scene.dice.pick(&[10, 8, 5]);
@@ -211,7 +216,7 @@ fn spread(scene: &mut Scene, most: u64, name: &'static str) -> Vec<u64> {
 
 /// Every source but one waits for all of the clock, so that ticks pass 32 bits.
 fn add_full_sources(scene: &mut Scene) {
-    let bucket = scene.dice.below(33) as usize;
+    let bucket = scene.bucket();
     let others: Vec<usize> = (1..=scene.board.n as usize).filter(|&id| scene.get("waited", id) == 0).collect();
     let ticks = scene.get("bucket_ticks", bucket) + others.len() as u64 * TOP;
     others.into_iter().for_each(|id| scene.put("waited", id, TOP));

@@ -2,6 +2,7 @@
 //! style, so that neighbouring seeds cover all styles.
 
 use crate::gen::{Board, Dice, TOP, claim_offset, finish, read_at, write_at};
+use crate::limits::{MOST_BITS, MOST_EXTRA};
 use crate::spoil;
 
 const STYLES: [fn(&mut Dice, u64) -> Lines; 10] = [
@@ -59,7 +60,7 @@ fn storm(dice: &mut Dice, _: u64) -> Lines {
     let width = board.n.min(40);
     let first = 1 + dice.below(board.n - width + 1);
     let sources: Vec<u64> = (first..first + width).collect();
-    add(&mut lines, sources.iter().map(|id| write_at(4 * id, dice.below(32))).collect());
+    add(&mut lines, sources.iter().map(|id| write_at(4 * id, dice.below(1 << MOST_BITS))).collect());
     for _ in 0..some(dice, 1, 3) {
         add(&mut lines, sources.iter().map(|id| format!("L {id} 1")).collect());
         add(&mut lines, vec![format!("T {}", dice.any_size(16))]);
@@ -128,7 +129,7 @@ fn many_edges(dice: &mut Dice, turn: u64) -> Lines {
     board.kinds.push('c');
     let mut lines = begin(dice, &board);
     add(&mut lines, vec![write_at(0x2000, TOP), write_at(4 * id, dice.below(2))]);
-    let edges = some(dice, 253, 260);
+    let edges = some(dice, MOST_EXTRA - 2, MOST_EXTRA + 5);
     for edge in 0..edges {
         add(&mut lines, vec![format!("L {id} 1"), format!("L {id} 0")]);
         if edge == 3 || dice.chance(2) {

@@ -4,6 +4,9 @@
 
 use crate::gen::TOP;
 use crate::gen_probe::Scene;
+use crate::limits::{LAST_BUCKET, LAST_SOURCE, MOST_BITS, MOST_CONTEXTS, MOST_EXTRA, WORD_ROOM};
+
+const LAST_CONTEXT: u64 = MOST_CONTEXTS - 1;
 
 const LEVEL: usize = 1;
 const DROPPING: usize = 2;
@@ -12,16 +15,16 @@ const COUNTING: usize = 3;
 /// Each puts one thing wrong into the state at hand.
 pub const BREAKS: [fn(&mut Scene); 61] = [
     |s| s.put("sources", 0, 0),
-    |s| s.put("sources", 0, 128),
-    |s| s.put("sources", 0, 255),
+    |s| s.put("sources", 0, LAST_SOURCE + 1),
+    |s| s.put("sources", 0, 2 * LAST_SOURCE + 1),
     |s| s.put("sources", 0, TOP),
     |s| s.put("sources", 0, s.board.n - 1),
     |s| s.put("contexts", 0, 0),
-    |s| s.put("contexts", 0, 9),
+    |s| s.put("contexts", 0, MOST_CONTEXTS + 1),
     |s| s.put("contexts", 0, TOP),
     |s| s.put("contexts", 0, s.board.c - 1),
     |s| s.put("bits", 0, 0),
-    |s| s.put("bits", 0, 6),
+    |s| s.put("bits", 0, MOST_BITS + 1),
     |s| s.put("bits", 0, 32),
     |s| s.put("bits", 0, 64),
     |s| s.put("bits", 0, TOP),
@@ -45,14 +48,14 @@ pub const BREAKS: [fn(&mut Scene); 61] = [
     |s| put_context(s, "threshold", 1 << s.board.b),
     |s| put_context(s, "threshold", 255),
     |s| put_absent_context(s, "threshold", 1, 1),
-    |s| put_absent_context(s, "enable", 4, 2),
-    |s| put_absent_context(s, "enable", 4, 1 << 31),
+    |s| put_absent_context(s, "enable", WORD_ROOM, 2),
+    |s| put_absent_context(s, "enable", WORD_ROOM, 1 << 31),
     |s| put_enable_bit(s, 0),
     |s| put_enable_bit(s, s.board.n + 1),
-    |s| put_enable_bit(s, 127),
+    |s| put_enable_bit(s, LAST_SOURCE),
     |s| put_staged(s, LEVEL, 1, "extra", 1),
     |s| put_staged(s, DROPPING, 1, "extra", 1),
-    |s| put_staged(s, DROPPING, 2, "extra", 255),
+    |s| put_staged(s, DROPPING, 2, "extra", MOST_EXTRA),
     |s| put_staged(s, COUNTING, 0, "extra", 1),
     |s| put_staged(s, COUNTING, 0, "start", 1),
     |s| put_staged(s, COUNTING, 2, "start", 1),
@@ -89,18 +92,18 @@ fn put_context(s: &mut Scene, name: &'static str, value: u64) {
     s.put(name, context, value);
 }
 
-/// Puts into a place of a context that the board lacks; context 7 if it has all.
+/// Puts into a place of a context that the board lacks; the last one if it has all.
 fn put_absent_context(s: &mut Scene, name: &'static str, places_each: usize, value: u64) {
-    let context = s.board.c.min(7) as usize;
-    if s.board.c == 8 {
-        s.put("contexts", 0, 7);
+    let context = s.board.c.min(LAST_CONTEXT);
+    if s.board.c == MOST_CONTEXTS {
+        s.put("contexts", 0, context);
     }
-    s.put(name, context * places_each, value);
+    s.put(name, context as usize * places_each, value);
 }
 
 fn put_enable_bit(s: &mut Scene, id: u64) {
-    let id = id.min(127);
-    let index = s.dice.below(s.board.c) as usize * 4 + id as usize / 32;
+    let id = id.min(LAST_SOURCE);
+    let index = s.dice.below(s.board.c) as usize * WORD_ROOM + id as usize / 32;
     let value = s.get("enable", index) | 1 << (id % 32);
     s.put("enable", index, value);
 }
@@ -123,7 +126,7 @@ fn add_to_present(s: &mut Scene, name: &'static str) {
 }
 
 fn add_to_bucket(s: &mut Scene, name: &'static str, more: u64) {
-    let bucket = s.dice.below(33) as usize;
+    let bucket = s.bucket();
     s.put(name, bucket, s.get(name, bucket) + more);
 }
 
@@ -143,7 +146,7 @@ fn claims_beyond_steps(s: &mut Scene) {
 
 /// Two buckets whose ticks together add exactly 2^64.
 fn bucket_ticks_roll_over(s: &mut Scene) {
-    for bucket in [31, 32] {
+    for bucket in [LAST_BUCKET - 1, LAST_BUCKET] {
         s.put("bucket_ticks", bucket, s.get("bucket_ticks", bucket) + (1 << 63));
     }
 }
@@ -184,7 +187,7 @@ fn waits_against_clock(s: &mut Scene) {
         s.look_at_edge(&[&open[..], &closed[..]].concat());
     }
     for clock in [99, 100] {
-        s.look_at_edge(&[("clock", 0, clock), ("waited", id, 100), ("bucket_ticks", 32, 100)]);
+        s.look_at_edge(&[("clock", 0, clock), ("waited", id, 100), ("bucket_ticks", LAST_BUCKET, 100)]);
     }
 }
 
@@ -210,13 +213,13 @@ fn claims_against_steps(s: &mut Scene) {
 
 fn claims_roll_over(s: &mut Scene) {
     s.look_at_edge(&[("claims", 1, TOP), ("claims", 2, 1)]);
-    s.look_at_edge(&[("bucket_claims", 1, TOP), ("bucket_claims", 32, 1)]);
+    s.look_at_edge(&[("bucket_claims", 1, TOP), ("bucket_claims", LAST_BUCKET, 1)]);
     let sources = [("claims", 1, TOP), ("claims", 2, 1), ("steps", 0, TOP)];
-    s.look_at_edge(&[&sources[..], &[("bucket_claims", 1, TOP), ("bucket_claims", 32, 1)][..]].concat());
+    s.look_at_edge(&[&sources[..], &[("bucket_claims", 1, TOP), ("bucket_claims", LAST_BUCKET, 1)][..]].concat());
 }
 
 fn ticks_roll_over(s: &mut Scene) {
-    s.look_at_edge(&[("bucket_ticks", 0, 1 << 63), ("bucket_ticks", 32, 1 << 63)]);
+    s.look_at_edge(&[("bucket_ticks", 0, 1 << 63), ("bucket_ticks", LAST_BUCKET, 1 << 63)]);
     s.look_at_edge(&[("bucket_ticks", 7, u64::MAX), ("bucket_ticks", 8, 1)]);
     let closed = [("clock", 0, 5), ("waited", 1, 5)];
     s.look_at_edge(&[&closed[..], &[("bucket_ticks", 1, u64::MAX), ("bucket_ticks", 2, 6)][..]].concat());
@@ -228,7 +231,7 @@ fn bucket_sums(s: &mut Scene) {
     let id = s.present();
     for bucket in [4, 5, 6] {
         s.look_at_edge(&[("claims", id, 5), ("bucket_claims", 0, bucket), ("steps", 0, 100)]);
-        s.look_at_edge(&[("clock", 0, 50), ("waited", id, 5), ("bucket_ticks", 32, bucket)]);
+        s.look_at_edge(&[("clock", 0, 50), ("waited", id, 5), ("bucket_ticks", LAST_BUCKET, bucket)]);
     }
 }
 
@@ -267,25 +270,25 @@ fn enable_bits(s: &mut Scene) {
         s.look_at_edge(&[("enable", top_word, value)]);
     }
     s.look_at_edge(&[("enable", 0, 1)]);
-    s.look_at_edge(&[("enable", 3, 1 << 31)]);
+    s.look_at_edge(&[("enable", WORD_ROOM - 1, 1 << 31)]);
 }
 
 fn absent_contexts(s: &mut Scene) {
-    for context in [s.board.c - 1, s.board.c.min(7), 7] {
+    for context in [s.board.c - 1, s.board.c.min(LAST_CONTEXT), LAST_CONTEXT] {
         let context = context as usize;
-        s.look_at_edge(&[("enable", context * 4, 2)]);
+        s.look_at_edge(&[("enable", context * WORD_ROOM, 2)]);
         s.look_at_edge(&[("threshold", context, 1)]);
     }
 }
 
 fn extra_edges(s: &mut Scene) {
     for (id, stage) in [(LEVEL, 1), (DROPPING, 2), (COUNTING, 0), (COUNTING, 1), (COUNTING, 2)] {
-        let value = s.dice.pick(&[1, 254, 255]);
+        let value = s.dice.pick(&[1, MOST_EXTRA - 1, MOST_EXTRA]);
         s.look_at_edge(&[("stage", id, stage), ("extra", id, value)]);
     }
     s.make();
     s.put("stage", COUNTING, 1);
-    s.put("extra", COUNTING, 254);
+    s.put("extra", COUNTING, MOST_EXTRA - 1);
     for level in [1, 0, 1, 0, 1] {
         s.say(format!("L {COUNTING} {level}"));
     }
@@ -307,13 +310,13 @@ fn full_waits(s: &mut Scene) {
     puts.push(("clock", 0, TOP));
     for change in [0, 1, 2] {
         let total = n as u64 * TOP + change - 1;
-        s.look_at_edge(&[&puts[..], &[("bucket_ticks", 32, total)][..]].concat());
+        s.look_at_edge(&[&puts[..], &[("bucket_ticks", LAST_BUCKET, total)][..]].concat());
     }
 }
 
 fn shape_limits(s: &mut Scene) {
-    for (name, values) in [("sources", [1, 127, 128]), ("contexts", [1, 8, 9]), ("bits", [1, 5, 6])] {
-        for value in values {
+    for (name, most) in [("sources", LAST_SOURCE), ("contexts", MOST_CONTEXTS), ("bits", MOST_BITS)] {
+        for value in [1, most, most + 1] {
             s.look_at_edge(&[(name, 0, value)]);
         }
     }

@@ -11,6 +11,7 @@ mod gen_bench;
 mod gen_probe;
 mod gen_replay;
 mod gen_unsound;
+mod limits;
 mod model;
 mod pipe;
 mod probe;

@@ -5,18 +5,14 @@
 //! can put them there.
 
 use crate::account::Event;
+use crate::limits::{BUCKET_ROOM, CONTEXT_ROOM, LAST_SOURCE, MOST_BITS, MOST_CONTEXTS, MOST_EXTRA, SOURCE_ROOM};
 use crate::sound;
 use std::cmp::Reverse;
 use std::collections::BTreeSet;
 
-/// Places for sources, number 0 included.
-pub const SOURCE_ROOM: usize = 128;
-pub const CONTEXT_ROOM: usize = 8;
-pub const BUCKET_ROOM: usize = 33;
 /// The last value of the clock and of the step count.
 pub const LAST_32: u64 = 4_294_967_295;
 const LAST_OFFSET: u64 = 0x3FF_FFFC;
-const MOST_EXTRA: u64 = 255;
 
 /// A refusal, by its number in document 01.
 pub type Refusal = u64;
@@ -180,6 +176,11 @@ fn bucket_of(wait: u64) -> usize {
     (0..BUCKET_ROOM).find(|&k| wait <= upper_end(k)).expect("a wait has at most 32 bits")
 }
 
+/// Whether a board may have so many sources, contexts and priority bits.
+pub fn shape_fits(sources: u64, contexts: u64, bits: u64) -> bool {
+    (1..=LAST_SOURCE).contains(&sources) && (1..=MOST_CONTEXTS).contains(&contexts) && (1..=MOST_BITS).contains(&bits)
+}
+
 impl Controller {
     /// The state that is zero throughout.
     pub fn zero() -> Controller {
@@ -197,9 +198,8 @@ impl Controller {
     }
 
     pub fn make(sources: u64, contexts: u64, bits: u64, kinds: &[u8]) -> Result<Controller, Refusal> {
-        let shape_fits = (1..=127).contains(&sources) && (1..=8).contains(&contexts) && (1..=5).contains(&bits);
         let kinds_fit = kinds.len() as u64 == sources && kinds.iter().all(|&kind| kind <= 2);
-        if !shape_fits || !kinds_fit {
+        if !shape_fits(sources, contexts, bits) || !kinds_fit {
             return Err(1);
         }
         let mut made = Controller::zero();

@@ -5,6 +5,7 @@
 use crate::child::{self, Ended};
 use crate::compare::first_difference;
 use crate::gen::{Board, Dice};
+use crate::limits::{LONGEST_LINE, MOST_BITS};
 use crate::{replay, spoil, words};
 use std::fs::{self, File};
 use std::io::{BufRead, BufReader, Write};
@@ -34,7 +35,7 @@ const TESTS: [(&str, fn(&Program) -> Outcome); 17] = [
     ("a script in one piece", |p| in_pieces(p, &mixed_script(400_000), &[usize::MAX])),
     ("a script in single bytes", |p| in_pieces(p, &mixed_script(3_000), &[1])),
     ("a script cut at random", |p| in_pieces(p, &mixed_script(400_000), &random_lengths())),
-    ("a script in pieces of 255, 256 and 257 bytes", |p| in_pieces(p, &mixed_script(400_000), &[255, 256, 257])),
+    ("a script in pieces about as long as a line", |p| in_pieces(p, &mixed_script(400_000), &about_a_line())),
     ("a script in pieces about 65536 bytes", |p| in_pieces(p, &mixed_script(400_000), &[65536, 65535, 65537, 65536])),
     ("line feeds at and beside round lengths", round_lengths),
     ("the reader goes away", closed_output),
@@ -42,7 +43,7 @@ const TESTS: [(&str, fn(&Program) -> Outcome); 17] = [
     ("a line of 300,000,000 bytes", huge_line),
     ("a directory as input", directory),
     ("every byte value", every_byte),
-    ("lines of 254 to 257 bytes", long_lines),
+    ("lines about the longest", long_lines),
     ("a last line without line feed", no_last_line_feed),
     ("empty input", |p| prints(p, b"", "refused 11\n")),
     ("a line feed alone", |p| prints(p, b"\n", "refused 11\n")),
@@ -129,7 +130,7 @@ fn refused_at_once(program: &Program) -> Outcome {
     let mut child = child::start(program, Stdio::piped())?;
     let mut pipe = child.stdin.take().expect("the input is a pipe");
     let answers = lines_of(child.stdout.take().expect("the output is a pipe"));
-    let outcome = say(&mut pipe, "P 1 1 6 l").and_then(|()| hear(&answers, "refused 1"));
+    let outcome = say(&mut pipe, &format!("P 1 1 {} l", MOST_BITS + 1)).and_then(|()| hear(&answers, "refused 1"));
     drop(pipe);
     child::wait(&mut child, PATIENCE)?;
     outcome
@@ -191,6 +192,10 @@ fn in_pieces(program: &Program, script: &[u8], lengths: &[usize]) -> Outcome {
         }
     };
     agrees(&replay::run(script)?, child::run(program, feed, PATIENCE)?)
+}
+
+fn about_a_line() -> [usize; 3] {
+    [LONGEST_LINE, LONGEST_LINE + 1, LONGEST_LINE + 2]
 }
 
 fn random_lengths() -> Vec<usize> {
@@ -299,18 +304,18 @@ fn every_byte(program: &Program) -> Outcome {
     as_the_model(program, &script)
 }
 
-/// A first line of 255 bytes is read, and refused for its count of kinds; no
+/// The longest first line is read, and refused for its count of kinds; no
 /// other line of such a length has a reading.
 fn long_lines(program: &Program) -> Outcome {
-    let first = |length: usize| format!("P 127 8 5 {}", "l".repeat(length - 10));
-    for (length, number) in [(254, 1), (255, 1), (256, 11), (257, 11)] {
+    for (length, number) in (LONGEST_LINE - 1..).zip([1, 1, 11, 11]) {
         for end in ["", "\n", "\nT 0\n"] {
-            let input = first(length) + end;
+            let input = spoil::of_last_source(length) + end;
             let outcome = prints(program, input.as_bytes(), &format!("refused {number}\n"));
             outcome.map_err(|message| format!("{length} bytes: {message}"))?;
         }
     }
-    let later: String = [254, 255, 256, 257, 511, 512, 513].map(|length| "T".repeat(length) + "\nN 0\n").concat();
+    let about = (LONGEST_LINE - 1..=LONGEST_LINE + 2).chain([511, 512, 513]);
+    let later: String = about.map(|length| "T".repeat(length) + "\nN 0\n").collect();
     let expected = "refused 11\nN 0\n".repeat(7) + "clock 0 claims 0 waited 0 open 0\n";
     prints(program, format!("P 1 1 1 l\n{later}").as_bytes(), &expected)
 }

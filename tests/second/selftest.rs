@@ -3,7 +3,9 @@
 //! lines; and that the account notices what is wrong with a run.
 
 use crate::account::{self, Event};
+use crate::limits::{CONTEXT_ROOM, LAST_SOURCE, LONGEST_LINE, MOST_BITS, MOST_CONTEXTS, SOURCE_ROOM, WORD_ROOM};
 use crate::model::Controller;
+use crate::spoil;
 use crate::{PROBE, REPLAY};
 
 /// What it shows, the input, the output.
@@ -19,7 +21,7 @@ pub fn run() -> Result<(), String> {
     probes.extend(limits());
     probes.push(percentiles());
     probes.extend(probe_forms());
-    let replays = [replay_example(), vec![longest_first_line(255, 1), longest_first_line(256, 11)], replay_forms()].concat();
+    let replays = [replay_example(), vec![long_first_line(LONGEST_LINE, 1), long_first_line(LONGEST_LINE + 1, 11)], replay_forms()].concat();
     let mut failed = 0;
     for (language, examples) in [(REPLAY, &replays), (PROBE, &probes)] {
         for (name, input, output) in examples {
@@ -76,10 +78,8 @@ fn replay_forms() -> Vec<Example> {
     ]
 }
 
-fn longest_first_line(length: usize, number: u64) -> Example {
-    let head = "P 127 8 5 ";
-    let line = format!("{head}{}", "l".repeat(length - head.len()));
-    ("long first line", format!("{line}\n"), format!("refused {number}\n"))
+fn long_first_line(length: usize, number: u64) -> Example {
+    ("long first line", spoil::of_last_source(length) + "\n", format!("refused {number}\n"))
 }
 
 fn claims_and_notifications() -> Vec<Example> {
@@ -145,24 +145,28 @@ fn percentiles() -> Example {
 }
 
 fn limits() -> Vec<Example> {
-    let bit_31 = "P 127 8 5 ".to_string() + &"e".repeat(127) + "/L 127 1/R 0000100C/L 128 1/";
+    let kinds = "e".repeat(SOURCE_ROOM - 1);
+    let made = format!("P {LAST_SOURCE} {MOST_CONTEXTS} {MOST_BITS} {kinds}");
+    let word = 0x1000 + 4 * (LAST_SOURCE / 32);
+    let last_bit = format!("{made}/L {LAST_SOURCE} 1/R {word:08X}/L {} 1/", LAST_SOURCE + 1);
     let clock = "T 4294967290/T 6/T 5/E/T 0/E/T 1/";
     let at_end = "clock 4294967295 claims 0 waited 0 open 0/";
     vec![
         on_board("end of the clock", clock, &format!("refused 8/{at_end}{at_end}refused 8/")),
         on_board("offsets", "R 03FFFFFC/R 04000000/R 04000001/R 03FFFFFE/", "R 0/refused 4/refused 4/refused 4/"),
-        example("source 127", &bit_31, "R 2147483648/refused 6/"),
+        example("the last source", &last_bit, "R 2147483648/refused 6/"),
         on_board("steps", "F steps 0 4294967295/L 0 1/T 1/R 00000001/W 04000000 1/N 0/", &("refused 3/".repeat(4) + "N 0/")),
     ]
 }
 
 fn probe_forms() -> Vec<Example> {
+    let enable = format!("F enable {} 0", CONTEXT_ROOM * WORD_ROOM);
     vec![
         example("empty probe", "", ""),
         example("zero state", "V/S/E/T 1/", "V end/S 0/refused 2/refused 2/"),
-        example("refused make zeroes", "P 1 1 1 l/P 1 1 6 l/V/", "refused 1/V end/"),
+        example("refused make zeroes", &format!("P 1 1 1 l/P 1 1 {} l/V/", MOST_BITS + 1), "refused 1/V end/"),
         example("kind bytes", "P 2 1 1 ?0003/P 2 1 1 ?0002/S/P 1 1 1 -/P 1 1 1 ?/", "refused 1/S 1/refused 1/refused 11/"),
-        example("field limits", "F line 0 2/F kind 0 256/F clock 1 0/F enable 32 0/F open 0 0/", &"refused 11/".repeat(5)),
+        example("field limits", &format!("F line 0 2/F kind 0 256/F clock 1 0/{enable}/F open 0 0/"), &"refused 11/".repeat(5)),
         example("wide field", "F bucket_ticks 32 18446744073709551615/V/", "V bucket_ticks 32 18446744073709551615/V end/"),
         example("nothing rolls over", "P 1 1 1 l/F bucket_ticks 0 18446744073709551615/F bucket_ticks 1 1/S/", "S 0/"),
     ]

@@ -3,6 +3,7 @@
 
 use crate::account::Event;
 use crate::gen::{TOP, claim_offset};
+use crate::limits::{LAST_SOURCE, MOST_BITS, MOST_CONTEXTS, MOST_EXTRA};
 use crate::model::{Controller, Kind, Source, Stage};
 use crate::words::Command;
 use std::collections::BTreeMap;
@@ -26,11 +27,11 @@ pub const SIGHTS: [Sight; 41] = [
     ("shape: N 31", |m| m.makes() && m.after.source_count == 31),
     ("shape: N 32", |m| m.makes() && m.after.source_count == 32),
     ("shape: N 33", |m| m.makes() && m.after.source_count == 33),
-    ("shape: N 127", |m| m.makes() && m.after.source_count == 127),
+    ("shape: N the most", |m| m.makes() && m.after.source_count == LAST_SOURCE),
     ("shape: C 1", |m| m.makes() && m.after.context_count == 1),
-    ("shape: C 8", |m| m.makes() && m.after.context_count == 8),
+    ("shape: C the most", |m| m.makes() && m.after.context_count == MOST_CONTEXTS),
     ("shape: b 1", |m| m.makes() && m.after.priority_bits == 1),
-    ("shape: b 5", |m| m.makes() && m.after.priority_bits == 5),
+    ("shape: b the most", |m| m.makes() && m.after.priority_bits == MOST_BITS),
     ("storm: 30 pending at once", |m| m.after.sources.iter().filter(|s| s.is_pending()).count() >= 30),
     ("claim: of nothing", |m| m.finds_nothing(|_| true)),
     ("claim: priority 0 alone is left", |m| m.finds_nothing(|c| m.candidates(c).count() > 0)),
@@ -55,8 +56,8 @@ pub const SIGHTS: [Sight; 41] = [
         m.moves(|s, high| s.kind == Kind::Level && s.is_pending() && s.line && !high)
     }),
     ("line: an edge dropped", |m| m.meets_edge(|s| s.kind == Kind::EdgeDropping)),
-    ("line: an edge counted", |m| m.meets_edge(|s| s.kind == Kind::EdgeCounting && s.extra < 255)),
-    ("line: an edge beyond 255", |m| m.meets_edge(|s| s.kind == Kind::EdgeCounting && s.extra == 255)),
+    ("line: an edge counted", |m| m.meets_edge(|s| s.kind == Kind::EdgeCounting && s.extra < MOST_EXTRA)),
+    ("line: an edge beyond the most", |m| m.meets_edge(|s| s.kind == Kind::EdgeCounting && s.extra == MOST_EXTRA)),
     ("line: the level repeated", |m| m.moves(|s, high| s.line == high)),
     ("clock: advance by 0", |m| m.accepted() && m.ticks() == Some(0)),
     ("clock: to its last value", |m| m.ticks() > Some(0) && m.accepted() && m.after.clock == TOP),

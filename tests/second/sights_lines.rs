@@ -2,6 +2,7 @@
 //! have: what the scripts of the gate are to reach of them.
 
 use crate::gen::TOP;
+use crate::limits::LONGEST_LINE;
 use crate::words;
 
 /// A name, and whether the bytes show it.
@@ -11,7 +12,7 @@ pub type Look = (&'static str, fn(&[u8]) -> bool);
 /// only then does it show that a program looks at it.
 pub const REASONS: [Look; 21] = [
     ("empty", |line| line.is_empty()),
-    ("over 255 bytes", |line| line.len() > 255),
+    ("too long", |line| line.len() > LONGEST_LINE),
     ("P after the first line", |line| line.starts_with(b"P ")),
     ("a carriage return", |line| line.contains(&b'\r')),
     ("a tab", |line| line.contains(&b'\t')),

@@ -1,7 +1,8 @@
 //! The paragraph 'Sound' of document 01, clause by clause. Sums are taken over
 //! whole numbers wide enough that nothing rolls over.
 
-use crate::model::{Controller, Kind, Source, Stage};
+use crate::limits::MOST_EXTRA;
+use crate::model::{Controller, Kind, Source, Stage, shape_fits};
 
 /// A clause: its name, and whether the state keeps it.
 type Clause = (&'static str, fn(&Controller) -> bool);
@@ -46,10 +47,9 @@ pub fn clause_names() -> Vec<&'static str> {
 }
 
 fn shape_within_limits(c: &Controller) -> bool {
-    let counts = (1..=127).contains(&c.source_count) && (1..=8).contains(&c.context_count);
-    let bits = (1..=5).contains(&c.priority_bits);
+    let fits = shape_fits(c.source_count, c.context_count, c.priority_bits);
     let present = c.sources.iter().zip(0u64..).filter(|(_, id)| c.has_source(*id));
-    counts && bits && present.map(|(source, _)| source).all(|s| s.kind.number() <= 2)
+    fits && present.map(|(source, _)| source).all(|s| s.kind.number() <= 2)
 }
 
 fn absent_sources_are_zero(c: &Controller) -> bool {
@@ -80,7 +80,7 @@ fn most(c: &Controller) -> u64 {
 }
 
 fn most_extra(source: &Source) -> u64 {
-    if source.kind == Kind::EdgeCounting { 255 } else { 0 }
+    if source.kind == Kind::EdgeCounting { MOST_EXTRA } else { 0 }
 }
 
 fn claims(c: &Controller) -> u128 {

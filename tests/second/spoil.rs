@@ -3,6 +3,7 @@
 
 use crate::field::FIELDS;
 use crate::gen::{Board, Dice, TOP};
+use crate::limits::{CONTEXT_ROOM, LAST_SOURCE, LONGEST_LINE, MOST_BITS, MOST_CONTEXTS, SOURCE_ROOM, WORD_ROOM};
 
 /// A readable line with one thing wrong.
 pub fn spoiled(dice: &mut Dice, board: &Board, line: &str) -> Vec<u8> {
@@ -96,10 +97,12 @@ fn spoiled_offset(dice: &mut Dice) -> String {
     if dice.chance(60) { format!("R {word}") } else { format!("W {word} 1") }
 }
 
-/// Over 255 bytes, by one or by much, sometimes with a command as its tail or
-/// its head, for whoever cuts lines into pieces.
+/// Over the longest line, by one byte or by many, sometimes with a command as
+/// its tail or its head, for whoever cuts lines into pieces.
 fn too_long(dice: &mut Dice, line: &str) -> Vec<u8> {
-    let length = dice.pick(&[255, 256, 256, 257, 300, 511, 512, 513, 1023, 1024, 1025, 4095, 4096, 4097, 70_000]);
+    let over = LONGEST_LINE + 1;
+    let lengths = [LONGEST_LINE, over, over, over + 1, 300, 511, 512, 513, 1023, 1024, 1025, 4095, 4096, 4097, 70_000];
+    let length = dice.pick(&lengths);
     let filler = dice.pick(&[' ', '0', 'x', '1']);
     let fill = |count: usize| String::from(filler).repeat(count);
     match dice.below(4) {
@@ -114,7 +117,7 @@ fn too_long(dice: &mut Dice, line: &str) -> Vec<u8> {
 /// First lines: made, refused with 1, unreadable.
 pub fn first_lines(dice: &mut Dice, board: &Board) -> Vec<Vec<u8>> {
     let good = board.first_line();
-    let readable = [good.clone(), format!("P 127 8 5 {}", kinds_of(127))];
+    let readable = [good.clone(), largest(LAST_SOURCE, kinds_of(SOURCE_ROOM - 1))];
     let known = readable.into_iter().chain(refused_firsts(board)).chain(unreadable_firsts(board));
     let mut firsts: Vec<Vec<u8>> = known.map(String::into_bytes).collect();
     firsts.push(spoiled(dice, board, &good));
@@ -125,21 +128,38 @@ fn kinds_of(count: usize) -> String {
     "lec".chars().cycle().take(count).collect()
 }
 
+/// A first line with the most contexts and bits.
+fn largest(sources: impl std::fmt::Display, kinds: String) -> String {
+    format!("P {sources} {MOST_CONTEXTS} {MOST_BITS} {kinds}")
+}
+
+/// A first line of that many bytes that asks for the most sources.
+pub fn of_last_source(length: usize) -> String {
+    let head = largest(LAST_SOURCE, String::new()).len();
+    largest(LAST_SOURCE, kinds_of(length - head))
+}
+
+/// A first line of that many bytes that asks for as many sources as it has
+/// kinds.
+fn of_its_kinds(length: usize) -> String {
+    let mut lines = (1..length).map(|count| largest(count, kinds_of(count)));
+    lines.find(|line| line.len() == length).expect("a count of kinds for each length")
+}
+
 fn refused_firsts(board: &Board) -> Vec<String> {
     let Board { n, c, b, kinds, .. } = board;
     vec![
         format!("P 0 {c} {b} {kinds}"),
-        format!("P 128 {c} {b} {}", kinds_of(128)),
+        format!("P {} {c} {b} {}", LAST_SOURCE + 1, kinds_of(SOURCE_ROOM)),
         format!("P {n} 0 {b} {kinds}"),
-        format!("P {n} 9 {b} {kinds}"),
+        format!("P {n} {} {b} {kinds}", MOST_CONTEXTS + 1),
         format!("P {n} {c} 0 {kinds}"),
-        format!("P {n} {c} 6 {kinds}"),
+        format!("P {n} {c} {} {kinds}", MOST_BITS + 1),
         format!("P {n} {c} {b} {kinds}l"),
         format!("P {} {c} {b} {kinds}", n + 1),
         format!("P {TOP} 1 1 l"),
         format!("P 1 {TOP} {TOP} l"),
-        // Exactly 255 bytes.
-        format!("P 245 8 5 {}", kinds_of(245)),
+        of_its_kinds(LONGEST_LINE),
     ]
 }
 
@@ -147,9 +167,9 @@ fn unreadable_firsts(board: &Board) -> Vec<String> {
     let Board { n, c, b, kinds, .. } = board;
     let good = board.first_line();
     vec![
-        // Exactly 256 bytes, with a wrong count and with a wrong number.
-        format!("P 127 8 5 {}", kinds_of(246)),
-        format!("P 246 8 5 {}", kinds_of(246)),
+        // A byte too long, with a wrong count and with a wrong number.
+        of_last_source(LONGEST_LINE + 1),
+        of_its_kinds(LONGEST_LINE + 1),
         "P 4294967296 1 1 l".to_string(),
         "P 1 4294967297 1 l".to_string(),
         "P 1 1 4294967297 l".to_string(),
@@ -178,6 +198,7 @@ pub fn spoiled_put(dice: &mut Dice) -> Vec<u8> {
     let field = &FIELDS[dice.below(FIELDS.len() as u64) as usize];
     let (name, last) = (field.name, field.places - 1);
     let above = u128::from(field.limit) + 1;
+    let beyond = format!("F enable {} 1", CONTEXT_ROOM * WORD_ROOM);
     match dice.below(14) {
         0 => format!("F {name} {last} {}", field.limit),
         1 | 2 => format!("F {name} {last} {above}"),
@@ -191,7 +212,7 @@ pub fn spoiled_put(dice: &mut Dice) -> Vec<u8> {
         10 => format!("F {name} 0 1 1"),
         11 => format!("F {name} 0 1 "),
         12 => format!("F  {name} 0 1"),
-        _ => dice.pick(&["F", "F ", "f clock 0 1", "F clock 1 0", "F line 1 2", "F enable 32 1"]).to_string(),
+        _ => dice.pick(&["F", "F ", "f clock 0 1", "F clock 1 0", "F line 1 2", &beyond]).to_string(),
     }
     .into_bytes()
 }
@@ -242,9 +263,13 @@ fn odd_kinds(dice: &mut Dice, board: &Board) -> String {
     format!("P {} {} {} ?{digits}", board.n, board.c, board.b)
 }
 
-/// Lists of odd kinds of 255 bytes, which can be made, and of just over.
+/// Lists of odd kinds that fill the longest line, which can be made, and of
+/// just over.
 fn long_kinds(dice: &mut Dice) -> String {
-    let (n, c) = dice.pick(&[(122, "8"), (122, "8"), (122, "10"), (121, "8"), (123, "8"), (127, "8")]);
+    let fits = (LONGEST_LINE - "P 100 8 5 ?".len()) as u64 / 2;
+    let most = MOST_CONTEXTS;
+    let shapes = [(fits, most), (fits, most), (fits, 10), (fits - 1, most), (fits + 1, most), (LAST_SOURCE, most)];
+    let (n, c) = dice.pick(&shapes);
     let digits: String = (0..n).map(|_| format!("0{}", dice.below(3))).collect();
-    format!("P {n} {c} 5 ?{digits}")
+    format!("P {n} {c} {MOST_BITS} ?{digits}")
 }

@@ -1,10 +1,8 @@
 //! Lines, words and numbers, which the replay language and the probe's language
 //! have in common, and the five commands that are in both.
 
+use crate::limits::LONGEST_LINE;
 use crate::model::{Controller, LAST_32, Refusal};
-
-/// The most bytes of a readable line, its line feed not counted.
-const LONGEST_LINE: usize = 255;
 
 /// A command of both languages.
 pub enum Command {

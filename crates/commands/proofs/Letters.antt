@@ -9,6 +9,7 @@ use native.Mathlib.Omega.{arith}
 use lib.Dec.{eqb, ltb}
 use lib.ListN.{length, getD, drop}
 use borrow.Author.Tests.{ne-eqb, eqb-true, eqb-false, lt-ltb, le-ltb, ltb-true, ltb-false}
+use Rattle.limits.specs.Limits.{lineRoom}
 use Rattle.laws.proofs.Truth.{dichotomy, not-so, cond-so, cond-not, cond-elim}
 use Rattle.commands.specs.declared.Command.{Command}
 use Rattle.commands.specs.declared.Command.the-variants.{Line, Advance, Read, Write, Notify, Unreadable}
@@ -116,11 +117,11 @@ two-bytes [] h = absurd (omega arith)
 two-bytes (x ∷ []) h = absurd (omega arith)
 two-bytes (x ∷ y ∷ l) h = refl
 
-command-long : (l : List ℕ) → 255 < length l → commandOf l ≡ Unreadable
+command-long : (l : List ℕ) → lineRoom < length l → commandOf l ≡ Unreadable
 unfolding commandOf
 command-long l h = cond-so _ _ (lt-ltb _ _ h)
 
-command-of : (l : List ℕ) → length l ≤ 255 → commandOf l ≡ ofWords (length l) (words l)
+command-of : (l : List ℕ) → length l ≤ lineRoom → commandOf l ≡ ofWords (length l) (words l)
 unfolding commandOf
 command-of l h = cond-not _ _ (le-ltb _ _ h)
 
@@ -132,7 +133,7 @@ command-short (x ∷ []) h =
     ∙ cond-elim (λ (ws : List (List ℕ)). ofWords 1 ws ≡ Unreadable) (eqb x 32) (λ _. empty-first 1 ([] ∷ [])) (λ _. refl)
 command-short (x ∷ y ∷ l) h = absurd (omega arith)
 
-module _ (l : List ℕ) (short : length l ≤ 255) (enough : 2 ≤ length l) where
+module _ (l : List ℕ) (short : length l ≤ lineRoom) (enough : 2 ≤ length l) where
   command-at : commandOf l ≡ ofWords (length l) (words (getD l 0 0 ∷ getD l 1 0 ∷ drop 2 l))
   command-at = command-of l short ∙ ap (λ (m : List ℕ). ofWords (length l) (words m)) (two-bytes l enough)
 
@@ -180,10 +181,10 @@ module _ (l : List ℕ) (short : length l ≤ 255) (enough : 2 ≤ length l) whe
 
 -- what holds of 0, where the line is unreadable, and of the first byte, where it is the line's letter, holds of the letter
 letter-cases : (l : List ℕ) (P : ℕ → Type 0) → (commandOf l ≡ Unreadable → P 0) →
-    (length l ≤ 255 → 2 ≤ length l → getD l 1 0 ≡ 32 → P (getD l 0 0)) → P (letterOf l)
+    (length l ≤ lineRoom → 2 ≤ length l → getD l 1 0 ≡ 32 → P (getD l 0 0)) → P (letterOf l)
 unfolding letterOf
 letter-cases l P none some =
-    cond-elim P (ltb 255 (length l)) (λ long. none (command-long l (ltb-true _ _ long)))
+    cond-elim P (ltb lineRoom (length l)) (λ long. none (command-long l (ltb-true _ _ long)))
     (λ short. cond-elim P (ltb (length l) 2) (λ few. none (command-short l (ltb-true _ _ few)))
     (λ enough. cond-elim P (eqb (getD l 1 0) 32) (λ spaced. some (ltb-false _ _ short) (ltb-false _ _ enough) (eqb-true _ _ spaced))
     (λ unspaced. none (command-unspaced l (ltb-false _ _ short) (ltb-false _ _ enough) (eqb-false _ _ unspaced)))))

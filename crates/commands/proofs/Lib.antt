@@ -2,6 +2,6 @@ pub mod Words
 pub mod Digits
 pub mod Last
 pub mod Letters
-pub mod Starts
+pub mod Openings
 pub mod Places
 pub mod Fixed

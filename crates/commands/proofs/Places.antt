@@ -10,6 +10,7 @@ use native.Mathlib.Omega.{arith}
 use lib.Dec.{eqb, ltb}
 use lib.ListN.{length, getD, drop, length-append, length-drop}
 use lib.Seq.{drop-at, getD-drop}
+use Rattle.limits.specs.Limits.{lineRoom}
 use Rattle.laws.proofs.Truth.{not-so, cond-elim, and-left, and-right}
 use Rattle.commands.specs.declared.Command.{Command}
 use Rattle.commands.specs.declared.Command.the-variants.{Make, Line, Advance, Read, Write, Notify, Unreadable}
@@ -90,7 +91,7 @@ module _ (n c b at : ℕ) where
 pub make-at : (line : List ℕ) (n c b at : ℕ) → commandOf line ≡ Make n c b at →
     (at < length line) × So (every isKind (drop at line))
 unfolding commandOf isMake
-make-at line n c b at h = by-cases (ltb 255 (length line)) h
+make-at line n c b at h = by-cases (ltb lineRoom (length line)) h
   where
     by-cases : (t : Bool) → cond t Unreadable (ofWords (length line) (words line)) ≡ Make n c b at →
         (at < length line) × So (every isKind (drop at line))

@@ -15,6 +15,7 @@ use borrow.Author.Tests.{leb-true, leb-false, ltb-true, ltb-false}
 use Rattle.laws.proofs.Truth.{dichotomy, cond-not}
 use Rattle.commands.specs.declared.Command.{Command}
 use Rattle.commands.specs.declared.Command.the-variants.{Unreadable}
+use Rattle.commands.specs.declared.scan.Value.{Value}
 use Rattle.commands.specs.declared.scan.Value.the-variants.{Is, Nothing}
 use Rattle.commands.specs.Grammar.{joinFirst, words, isNumber, noNeedlessZero, isOffset}
 use Rattle.commands.specs.Leaves.{firstWord, valueOf, valued, ended}
@@ -68,15 +69,15 @@ missing false x y k h = refl
 
 module _ (form : List ℕ → Bool) (value : List ℕ → ℕ) (f : ℕ → List (List ℕ) → Command) (l : List ℕ) (at : ℕ) where
   -- where the word at a place is of the form, what is asked for is what its value and the words after it ask for
-  value-found : (v e : ℕ) → valueOf form value (drop at l) at ≡ Is v e →
+  value-found : {v e : ℕ} → valueOf form value (drop at l) at ≡ Is v e →
       valued form value f (words (drop at l)) ≡ f v (wordsAfter (drop e l))
   unfolding valueOf valued
-  value-found v e h =
+  value-found {v} {e} h =
       ap (valued form value f) (words-at l at)
       ∙ found (form (firstWord (drop at l))) (value (firstWord (drop at l))) (at + length (firstWord (drop at l))) v e
       (λ x y. f x (wordsAfter (drop y l))) h
 
-  pub value-missing : valueOf form value (drop at l) at ≡ Nothing → valued form value f (words (drop at l)) ≡ Unreadable
+  value-missing : valueOf form value (drop at l) at ≡ Nothing → valued form value f (words (drop at l)) ≡ Unreadable
   unfolding valueOf valued
   value-missing h =
       ap (valued form value f) (words-at l at)
@@ -95,7 +96,7 @@ module _ (form : List ℕ → Bool) (empty : form [] ≡ false) (l : List ℕ) (
       ap (λ (k : List ℕ). cond (form (firstWord k)) (Is x y) Nothing) p ∙ cond-not _ _ empty in
       let z : _≡_ {A = ℕ} 0 1 = cc in omega arith
 
-  pub value-within : (value : List ℕ → ℕ) (at : ℕ) → valueOf form value (drop at l) at ≡ Is v e → e ≤ length l
+  value-within : (value : List ℕ → ℕ) (at : ℕ) → valueOf form value (drop at l) at ≡ Is v e → e ≤ length l
   unfolding valueOf
   value-within value at h = ⊎-elim
       (λ t. ends-within (form (firstWord (drop at l))) _ _
@@ -142,18 +143,37 @@ pub empty-valued : (form : List ℕ → Bool) (value : List ℕ → ℕ) (f : �
 unfolding valued
 empty-valued form value f empty = sym (cond-not _ _ empty)
 
-module _ (form : List ℕ → Bool) (value : List ℕ → ℕ) (l : List ℕ) (at v e : ℕ) (here : valueOf form value (drop at l) at ≡ Is v e) where
-  -- a word of the form that is not the last: what the words from the next place on ask for
-  pub value-next : (f : ℕ → List (List ℕ) → Command) → f v [] ≡ f v ([] ∷ []) →
-      valued form value f (words (drop at l)) ≡ f v (words (drop (e + 1) l))
-  value-next f same = value-found form value f l at v e here ∙ next-words (f v) l e same
+-- what a line asks for by the word at a place: `here` is what is found there, where a word of a form is looked for
 
-  -- and one that is to be the last
-  pub value-last : (k : ℕ → Command) → e ≡ length l → valued form value (λ n. ended (k n)) (words (drop at l)) ≡ k v
-  value-last k h = value-found form value (λ n. ended (k n)) l at v e here ∙ last-word (k v) l e h
+-- of a word that is to be the last: nothing is found; it is the last; or it is not
+pub record Only (k : ℕ → Command) (l : List ℕ) (here : Value) (asks : Command) : Type 0 where
+  pub missing : here ≡ Nothing → Unreadable ≡ asks
+  pub last : {v e : ℕ} → here ≡ Is v e → e ≡ length l → k v ≡ asks
+  pub not-last : {v e : ℕ} → here ≡ Is v e → (e ≡ length l → ⊥) → Unreadable ≡ asks
 
-  pub value-not-last : (k : ℕ → Command) → form [] ≡ false → (e ≡ length l → ⊥) →
-      valued form value (λ n. ended (k n)) (words (drop at l)) ≡ Unreadable
-  value-not-last k empty h =
-      let within : e ≤ length l = value-within form empty l v e value at here in
-      value-found form value (λ n. ended (k n)) l at v e here ∙ not-last-word (k v) l e (omega arith)
+-- of a word that others are to follow: nothing is found; or it ends within the line, and the words from the next place on say the rest
+pub record First (f : ℕ → List (List ℕ) → Command) (l : List ℕ) (here : Value) (asks : Command) : Type 0 where
+  pub missing : here ≡ Nothing → Unreadable ≡ asks
+  pub within : {v e : ℕ} → here ≡ Is v e → e ≤ length l
+  pub next : {v e : ℕ} → here ≡ Is v e → asks ≡ f v (words (drop (e + 1) l))
+
+module _ (form : List ℕ → Bool) (value : List ℕ → ℕ) (empty : form [] ≡ false) (l : List ℕ) (at : ℕ)
+    {here : Value} (is : here ≡ valueOf form value (drop at l) at) where
+  ends-in : {v e : ℕ} → here ≡ Is v e → e ≤ length l
+  ends-in {v} {e} h = value-within form empty l v e value at (sym is ∙ h)
+
+  pub only : (k : ℕ → Command) → Only k l here (valued form value (λ n. ended (k n)) (words (drop at l)))
+  only k = record {
+    missing = λ h. sym (value-missing form value (λ n. ended (k n)) l at (sym is ∙ h));
+    last = λ {v} {e} h end. sym (value-found form value (λ n. ended (k n)) l at (sym is ∙ h) ∙ last-word (k v) l e end);
+    not-last = λ {v} {e} h more.
+        let within = ends-in h in
+        sym (value-found form value (λ n. ended (k n)) l at (sym is ∙ h) ∙ not-last-word (k v) l e (omega arith));
+  }
+
+  pub first : (f : ℕ → List (List ℕ) → Command) → ((v : ℕ) → f v [] ≡ f v ([] ∷ [])) → First f l here (valued form value f (words (drop at l)))
+  first f same = record {
+    missing = λ h. sym (value-missing form value f l at (sym is ∙ h));
+    within = λ h. ends-in h;
+    next = λ {v} {e} h. value-found form value f l at (sym is ∙ h) ∙ next-words (f v) l e (same v);
+  }

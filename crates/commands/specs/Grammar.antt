@@ -5,8 +5,11 @@ use mathlib.Core.List.{List, [], _∷_}
 use Prim.Native.Nat.{ℕ, _+_, _-_, _*_}
 use lib.Dec.{leb, ltb, eqb}
 use lib.ListN.{length}
+use Rattle.limits.specs.Limits.{lineRoom}
 use Rattle.commands.specs.declared.Command.{Command}
 use Rattle.commands.specs.declared.Command.the-variants.{Make, Line, Advance, Read, Write, Notify, Unreadable}
+use Rattle.commands.specs.declared.Opening.{Opening}
+use Rattle.commands.specs.declared.Opening.the-variants as opening
 
 -- bytes: a space is 32, the digits 0 to 9 are 48 to 57, the capitals A to F are 65 to 70
 unfoldable pub isDigit : ℕ → Bool
@@ -105,14 +108,14 @@ ofWords long (w ∷ a ∷ b ∷ c ∷ d ∷ e ∷ ws) = Unreadable
 
 -- "Lines over 255 bytes without the line feed, empty lines and all else not of these forms are unreadable."
 unfoldable pub commandOf : List ℕ → Command
-commandOf line = cond (ltb 255 (length line)) Unreadable (ofWords (length line) (words line))
+commandOf line = cond (ltb lineRoom (length line)) Unreadable (ofWords (length line) (words line))
 
 -- "`P N C b kinds` must come first (any other first line is unreadable)"
-unfoldable pub startOf : Command → Command
-startOf (Make n c b k) = Make n c b k
-startOf (Line s v) = Unreadable
-startOf (Advance n) = Unreadable
-startOf (Read off) = Unreadable
-startOf (Write off n) = Unreadable
-startOf (Notify c) = Unreadable
-startOf Unreadable = Unreadable
+unfoldable pub openingOf : Command → Opening
+openingOf (Make n c b k) = opening.Board n c b k
+openingOf (Line s v) = opening.Unreadable
+openingOf (Advance n) = opening.Unreadable
+openingOf (Read off) = opening.Unreadable
+openingOf (Write off n) = opening.Unreadable
+openingOf (Notify c) = opening.Unreadable
+openingOf Unreadable = opening.Unreadable

@@ -9,10 +9,10 @@ use crate::forms::notify_of;
 use crate::forms::read_of;
 use crate::forms::write_of;
 ghost use mathlib.Core.Path.{_≡_};
-ghost use Rattle.commands.specs.Grammar.{commandOf, startOf};
+ghost use Rattle.commands.specs.Grammar.{commandOf, openingOf};
 ghost use Rattle.commands.specs.Leaves.{letterOf};
 
-// A command, with the numbers that its line gives. Of the first line the last number is where the letters of the kinds begin.
+// A command, with the numbers that its line gives. Of `Make` the last is where the letters of the kinds begin.
 pub enum Command {
     Make(u32, u32, u32, usize),
     Line(u32, bool),
@@ -23,11 +23,17 @@ pub enum Command {
     Unreadable,
 }
 
-// The letter of a line of 2 to 255 bytes whose second is a space; 0 for any other line.
+// What a script's first line asks for: a board, with N, C, b and the place where the letters of the kinds begin; or it is unreadable.
+pub enum Opening {
+    Board(u32, u32, u32, usize),
+    Unreadable,
+}
+
+// The letter of a line of two bytes or more, not too long, whose second is a space; 0 for any other line.
 fn letter_of(line: &[u8]) -> u8
     ensures { λ r. ⌜ r ≡ letterOf (now (line .entry)) ⌝ }
 {
-    if 255 < line.len() {
+    if limits::LINE_ROOM < line.len() {
         return 0;
     }
     if line.len() < 2 {
@@ -55,12 +61,22 @@ pub fn parse(line: &[u8]) -> Command
     }
 }
 
+// A command as a script's first.
+fn opening_of(command: Command) -> Opening
+    ensures { λ r. ⌜ r ≡ openingOf command ⌝ }
+{
+    match command {
+        Command::Make(n, c, b, at) => Opening::Board(n, c, b, at),
+        _ => Opening::Unreadable,
+    }
+}
+
 // What a script's first line asks for: only `P N C b kinds` is readable there.
-pub fn first(line: &[u8]) -> Command
-    ensures { λ r. ⌜ r ≡ startOf (commandOf (now (line .entry))) ⌝ }
+pub fn parse_opening(line: &[u8]) -> Opening
+    ensures { λ r. ⌜ r ≡ openingOf (commandOf (now (line .entry))) ⌝ }
 {
     if letter_of(line) == b'P' {
-        return make_of(line);
+        return opening_of(make_of(line));
     }
-    Command::Unreadable
+    Opening::Unreadable
 }

@@ -3,7 +3,8 @@ use crate::text::Text;
 use crate::text::first;
 use crate::words::LAST_32;
 use crate::words::same;
-ghost use Prim.Native.Nat.{_≤_};
+ghost use Prim.Native.Nat.{_+_, _<_};
+ghost use Rattle.limits.specs.Limits.{sourceRoom, enableRoom};
 
 pub(crate) enum Field {
     Sources,
@@ -31,6 +32,15 @@ pub(crate) enum Named {
 }
 
 pub(crate) const FIELDS: usize = 17;
+
+// The last index of each kind of field.
+const LAST_SOURCE: u64 = limits::LAST_SOURCE as u64;
+
+const LAST_CONTEXT: u64 = limits::CONTEXT_ROOM as u64 - 1;
+
+const LAST_ENABLE: u64 = limits::ENABLE_ROOM as u64 - 1;
+
+const LAST_BUCKET: u64 = limits::LAST_BUCKET as u64;
 
 // The field at a place of the order in which fields are shown.
 pub(crate) fn field_at(k: usize) -> Field {
@@ -96,21 +106,22 @@ pub(crate) fn field_named(word: &[u8]) -> Named {
 }
 
 pub(crate) fn last_index(field: Field) -> u64
-    ensures { λ r. ⌜ r ≤ 127 ⌝ }
+    ensures { λ r. ⌜ r < sourceRoom + enableRoom ⌝ }
 {
     match field {
         Field::Sources | Field::Contexts | Field::Bits | Field::Clock | Field::Steps => 0,
-        Field::Enable => 31,
-        Field::Threshold => 7,
-        Field::BucketClaims | Field::BucketTicks => 32,
-        _ => 127,
+        Field::Enable => LAST_ENABLE,
+        Field::Threshold => LAST_CONTEXT,
+        Field::BucketClaims | Field::BucketTicks => LAST_BUCKET,
+        _ => LAST_SOURCE,
     }
 }
 
 pub(crate) fn last_value(field: Field) -> u64 {
     match field {
         Field::Line => 1,
-        Field::Kind | Field::Stage | Field::Extra | Field::Priority | Field::Threshold => 255,
+        Field::Kind | Field::Stage | Field::Extra | Field::Priority | Field::Threshold =>
+            u8::MAX as u64,
         Field::BucketTicks => u64::MAX,
         _ => LAST_32,
     }

@@ -6,15 +6,15 @@ use crate::fields::last_value;
 use crate::kinds::of_letters;
 use crate::kinds::of_pairs;
 use crate::put::put;
+use crate::reply::Reply;
+use crate::reply::answer;
+use crate::reply::is_sound;
+use crate::reply::mean;
+use crate::reply::silent;
+use crate::reply::totals;
+use crate::reply::unreadable;
 use crate::text::Text;
 use crate::text::first;
-use crate::told::Told;
-use crate::told::answer;
-use crate::told::is_sound;
-use crate::told::mean;
-use crate::told::silent;
-use crate::told::totals;
-use crate::told::unreadable;
 use crate::widths::narrow;
 use crate::words::LAST_32;
 use crate::words::Value;
@@ -25,13 +25,13 @@ use model::State;
 ghost use Prim.Native.Nat.{_≤_};
 ghost use lib.ListN.{length};
 
-fn make(n: u32, m: u32, b: u32, kinds: Text) -> Told {
+fn make(n: u32, m: u32, b: u32, kinds: Text) -> Reply {
     let bytes = kinds.bytes;
     answer(b"", plic::make(n, m, b, first(&bytes, kinds.length)))
 }
 
 // `A p` and `B p`
-fn percentile(state: State, line: &[u8], letter: u8) -> Told {
+fn percentile(state: State, line: &[u8], letter: u8) -> Reply {
     let per_mille = number_at(line, 2, LAST_32);
     let Value::Is(p, past) = per_mille else {
         return unreadable(state);
@@ -46,7 +46,7 @@ fn percentile(state: State, line: &[u8], letter: u8) -> Told {
 }
 
 // `F name i v`
-fn set(state: State, line: &[u8]) -> Told
+fn set(state: State, line: &[u8]) -> Reply
     requires { ⌜ 2 ≤ length (now line) ⌝ }
 {
     let end = next_of(line, 2, b' ');
@@ -69,7 +69,7 @@ fn set(state: State, line: &[u8]) -> Told
 }
 
 // `P N C b -` and `P N C b ?HEX`
-fn make_odd(state: State, line: &[u8]) -> Told {
+fn make_odd(state: State, line: &[u8]) -> Reply {
     let sources = number_at(line, 2, LAST_32);
     let Value::Is(n, second) = sources else {
         return unreadable(state);
@@ -99,7 +99,7 @@ fn make_odd(state: State, line: &[u8]) -> Told {
 }
 
 // A line of one letter.
-fn obey_letter(state: State, letter: u8) -> Told {
+fn obey_letter(state: State, letter: u8) -> Reply {
     match letter {
         b'M' => mean(state),
         b'E' => totals(state),
@@ -109,8 +109,8 @@ fn obey_letter(state: State, letter: u8) -> Told {
 }
 
 // A line that is no replay line.
-fn obey_other(state: State, line: &[u8]) -> Told {
-    if 255 < line.len() {
+fn obey_other(state: State, line: &[u8]) -> Reply {
+    if limits::LINE_ROOM < line.len() {
         return unreadable(state);
     }
     if line.len() == 0 {
@@ -132,7 +132,7 @@ fn obey_other(state: State, line: &[u8]) -> Told {
 }
 
 // A line without its line feed.
-pub(crate) fn obey(state: State, line: &[u8]) -> Told {
+pub(crate) fn obey(state: State, line: &[u8]) -> Reply {
     let command = commands::parse(line);
     match command {
         Command::Make(n, m, b, at) => make(n, m, b, of_letters(line, at)),

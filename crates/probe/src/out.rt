@@ -5,18 +5,20 @@ use crate::text::first;
 use libc::STDOUT_FILENO;
 
 pub(crate) struct Out {
-    bytes: [u8; 4096],
+    bytes: [u8; ROOM],
     used: usize,
     pub(crate) is_open: bool,
 }
 
-// Above this the longest text may not fit.
-const FULL: usize = 4096 - 256;
+// Above `FULL` the longest text may not fit.
+const ROOM: usize = 4096;
+
+const FULL: usize = ROOM - limits::HELD_ROOM;
 
 impl Out {
     pub(crate) fn new() -> Out {
         Out {
-            bytes: [0u8; 4096],
+            bytes: [0u8; ROOM],
             used: 0,
             is_open: true,
         }

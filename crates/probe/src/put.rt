@@ -70,7 +70,7 @@ fn in_requests(requests: Requests, field: Field, i: usize, v: u64) -> Requests {
         }
         Field::Line => {
             let mut line = requests.line;
-            if i < 128 {
+            if i < limits::SOURCE_ROOM {
                 line[i] = v == 1;
             }
             next.line = line;
@@ -116,7 +116,7 @@ fn in_buckets(buckets: Buckets, field: Field, i: usize, v: u64) -> Buckets {
         }
         _ => {
             let mut ticks = buckets.ticks;
-            if i < 33 {
+            if i < limits::BUCKET_ROOM {
                 ticks[i] = v;
             }
             next.ticks = ticks;

@@ -1,7 +1,7 @@
-// Up to 256 bytes by value: a line that is read, a line to write, a list of kind bytes.
+// Bytes by value, as many as are held of a line: a line that is read, a line to write, a list of kind bytes.
 
 pub(crate) struct Text {
-    pub(crate) bytes: [u8; 256],
+    pub(crate) bytes: [u8; limits::HELD_ROOM],
     pub(crate) length: usize,
 }
 
@@ -31,7 +31,7 @@ pub(crate) fn first(bytes: &[u8], n: usize) -> &[u8] {
 impl Text {
     pub(crate) fn empty() -> Text {
         Text {
-            bytes: [0u8; 256],
+            bytes: [0u8; limits::HELD_ROOM],
             length: 0,
         }
     }

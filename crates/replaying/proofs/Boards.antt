@@ -13,7 +13,9 @@ use Rattle.model.specs.Run.{run, past, Accounted}
 use Rattle.model.proofs.Runs.{accounted}
 use Rattle.commands.specs.declared.Command.{Command}
 use Rattle.commands.specs.declared.Command.the-variants.{Make, Line, Advance, Read, Write, Notify, Unreadable}
-use Rattle.commands.specs.Grammar.{commandOf}
+use Rattle.commands.specs.declared.Opening.{Opening}
+use Rattle.commands.specs.declared.Opening.the-variants as opening
+use Rattle.commands.specs.Grammar.{commandOf, openingOf}
 use Rattle.replaying.specs.Replay.{Stand, before, on, ended, goesOn, commanded, kindBytes, started, badStart, firstLine, answer, Replay, lineEnds, fed, fedAll, fresh}
 
 -- a state that calls lead to, from a fresh state of an accepted shape
@@ -66,19 +68,14 @@ made-reached n c b kinds = cond-elim OnReached (eqb (make n c b kinds .number) 0
     })
     (λ _. tt)
 
-first-reached : (c : Command) (bytes : List ℕ) → OnReached (firstLine c bytes .stand)
+first-reached : (o : Opening) (bytes : List ℕ) → OnReached (firstLine o bytes .stand)
 unfolding firstLine badStart
-first-reached (Make n c b k) bytes = made-reached n c b (kindBytes (drop k bytes))
-first-reached (Line i v) bytes = tt
-first-reached (Advance n) bytes = tt
-first-reached (Read off) bytes = tt
-first-reached (Write off v) bytes = tt
-first-reached (Notify c) bytes = tt
-first-reached Unreadable bytes = tt
+first-reached (opening.Board n c b k) bytes = made-reached n c b (kindBytes (drop k bytes))
+first-reached opening.Unreadable bytes = tt
 
 answer-reached : (p : Stand) (bytes : List ℕ) → OnReached p → OnReached (answer p bytes .stand)
 unfolding answer
-answer-reached before bytes f = first-reached (commandOf bytes) bytes
+answer-reached before bytes f = first-reached (openingOf (commandOf bytes)) bytes
 answer-reached (on s) bytes f = commanded-reached (commandOf bytes) s f
 answer-reached ended bytes f = tt
 

@@ -12,7 +12,7 @@ use Rattle.model.specs.Life.{lineAt, raised, edgeCounted, levelChanged, edgeCha
 use Rattle.model.specs.Registers.{priorityAt, pendingAt, enableAt, pageAt, decode, pendingWord, kept, readOf, afterRead, withPriority, withEnable, withThreshold, afterWrite}
 use Rattle.model.specs.Sound.{typed, allZero, soundSource, soundSourceAt, soundContext, sound}
 use Rattle.model.specs.Calls.{isStep, notSound, noStepLeft, offsetAbove, offsetUnaligned, noSuchSource, noSuchContext, clockPast, perMilleOutside, nothingToDivide, grounds, valuesOf, effect, after, respond, badShape, make}
-use Rattle.commands.specs.Grammar.{isDigit, isHexDigit, hexDigit, isKind, every, joinFirst, words, decimalFrom, decimal, noNeedlessZero, isNumber, hexFrom, hex, isOffset, isByte, isKinds, ofTwo, ofThree, ofFive, ofWords, commandOf}
+use Rattle.commands.specs.Grammar.{isDigit, isHexDigit, hexDigit, isKind, every, joinFirst, words, decimalFrom, decimal, noNeedlessZero, isNumber, hexFrom, hex, isOffset, isByte, isKinds, ofTwo, ofThree, ofFive, ofWords, commandOf, openingOf}
 use Rattle.replaying.specs.Replay.{digitsIn, digits, refusedLine, valueLine, totalsLine, goesOn, silent, commanded, kindByte, kindBytes, started, badStart, firstLine, answer, lineEnds, fed, fedAll, lastIn, closing, finished, fresh, replay}
 
 -- P 3 1 3 lec, L 1 1, T 5, W 00000004 2, W 00002000 2, R 00200004, T 4, R 00200004, W 00200004 1, T 2, R 00200006
@@ -32,5 +32,5 @@ output =
     ∷ 116 ∷ 101 ∷ 100 ∷ 32 ∷ 53 ∷ 32 ∷ 111 ∷ 112 ∷ 101 ∷ 110 ∷ 32 ∷ 50 ∷ 10 ∷ []
 
 pub example : replay script ≡ output
-unfolding script output sumTo allTo allOf anyTo firstTo best bit packed withinLimits kindsFor isSource isContext isWord kindOf freshIn zeroState zeroShape shapeOf request setRequest priority threshold enableWord enabled withClock withSteps withSettings withRequest withCounts firstOf isIdle isPending isInService wait openAge upperEnds upperEnd bucketOf counted booked sourceClaims sourceWaited bucketClaims bucketTicks boardClaims boardWaited boardOpen reaches percentile lineAt raised edgeCounted levelChanged edgeChanged lineChanged lineChange advanced pendingFor eligible rank winner served claimOf claimBy takesEffect idled edgeTaken completed completeBy rouses notified priorityAt pendingAt enableAt pageAt decode pendingWord kept readOf afterRead withPriority withEnable withThreshold afterWrite typed allZero soundSource soundSourceAt soundContext sound isStep notSound noStepLeft offsetAbove offsetUnaligned noSuchSource noSuchContext clockPast perMilleOutside nothingToDivide grounds valuesOf effect after respond badShape make isDigit isHexDigit hexDigit isKind every joinFirst words decimalFrom decimal noNeedlessZero isNumber hexFrom hex isOffset isByte isKinds ofTwo ofThree ofFive ofWords commandOf digitsIn digits refusedLine valueLine totalsLine goesOn silent commanded kindByte kindBytes started badStart firstLine answer lineEnds fed fedAll lastIn closing finished fresh replay
+unfolding script output sumTo allTo allOf anyTo firstTo best bit packed withinLimits kindsFor isSource isContext isWord kindOf freshIn zeroState zeroShape shapeOf request setRequest priority threshold enableWord enabled withClock withSteps withSettings withRequest withCounts firstOf isIdle isPending isInService wait openAge upperEnds upperEnd bucketOf counted booked sourceClaims sourceWaited bucketClaims bucketTicks boardClaims boardWaited boardOpen reaches percentile lineAt raised edgeCounted levelChanged edgeChanged lineChanged lineChange advanced pendingFor eligible rank winner served claimOf claimBy takesEffect idled edgeTaken completed completeBy rouses notified priorityAt pendingAt enableAt pageAt decode pendingWord kept readOf afterRead withPriority withEnable withThreshold afterWrite typed allZero soundSource soundSourceAt soundContext sound isStep notSound noStepLeft offsetAbove offsetUnaligned noSuchSource noSuchContext clockPast perMilleOutside nothingToDivide grounds valuesOf effect after respond badShape make isDigit isHexDigit hexDigit isKind every joinFirst words decimalFrom decimal noNeedlessZero isNumber hexFrom hex isOffset isByte isKinds ofTwo ofThree ofFive ofWords commandOf openingOf digitsIn digits refusedLine valueLine totalsLine goesOn silent commanded kindByte kindBytes started badStart firstLine answer lineEnds fed fedAll lastIn closing finished fresh replay
 example = refl

@@ -78,7 +78,7 @@ last-first l at n last h k e =
 pub written-length : {l out : List ℕ} {at end : ℕ} {text : List ℕ} → Written l out at end text → length out ≡ length l
 written-length {l} {at = at} {text = text} w = ap length (w .bytes) ∙ length-sets l at text
 
--- one text after another, and one byte after a text
+-- one text after another
 pub written-then : {l mid out : List ℕ} {at place end : ℕ} {xs ys : List ℕ} →
     Written l mid at place xs → Written mid out place end ys → Written l out at end (xs ++ ys)
 written-then {l} {at = at} {xs = xs} {ys = ys} v w = record {
@@ -86,8 +86,35 @@ written-then {l} {at = at} {xs = xs} {ys = ys} v w = record {
   place = omega (arith, v .place, w .place, length-append xs ys);
 }
 
-pub written-byte : {l out : List ℕ} {at end : ℕ} {xs : List ℕ} (b : ℕ) → Written l out at end xs → Written l (set out end b) at (end + 1) (xs ++ (b ∷ []))
-written-byte b v = written-then v (record { bytes = refl; place = refl })
+-- text written, how far it reaches at most, and that the bytes are as many as they were
+pub record Reaching (l out : List ℕ) (at end most : ℕ) (text : List ℕ) : Type 0 where
+  pub written : Written l out at end text
+  pub far : end ≤ at + most
+  pub long : length out ≡ length l
+
+pub reaches : {l out : List ℕ} {at end : ℕ} {text : List ℕ} (most : ℕ) → length text ≤ most → Written l out at end text → Reaching l out at end most text
+reaches most h w = record { written = w; far = omega (arith, w .place); long = written-length w }
+
+pub reaching-then : {l mid out : List ℕ} {at place end m n : ℕ} {xs ys : List ℕ} →
+    Reaching l mid at place m xs → Reaching mid out place end n ys → Reaching l out at end (m + n) (xs ++ ys)
+reaching-then v w = record {
+  written = written-then (v .written) (w .written);
+  far = omega (arith, v .far, w .far);
+  long = w .long ∙ v .long;
+}
+
+-- .. a number of 32 bits, as the code widens it; a word and a number of 64 bits after it; and a line feed at the end
+pub narrow-reaches : {l out : List ℕ} {at end wide n : ℕ} → (wide ≡ n) × (wide ≤ 4294967295) → Written l out at end (digits wide) →
+    Reaching l out at end 10 (digits n)
+narrow-reaches {l} {out} {at} {end} {wide} {n} h w =
+    subst (λ (k : ℕ). Reaching l out at end 10 (digits k)) (h .0) (reaches 10 (digits-narrow wide (h .1)) w)
+
+pub word-reaches : {l out : List ℕ} {at end : ℕ} (word : List ℕ) (v : ℕ) → v < 18446744073709551616 → Written l out at end (word ++ digits v) →
+    Reaching l out at end (length word + 20) (word ++ digits v)
+word-reaches word v h = reaches (length word + 20) (omega (arith, length-append word (digits v), digits-wide v h))
+
+pub reaching-line : {l out : List ℕ} {at end m : ℕ} {xs : List ℕ} → Reaching l out at end m xs → Reaching l (set out end 10) at (end + 1) (m + 1) (xs ++ (10 ∷ []))
+reaching-line v = reaching-then v (reaches 1 (omega arith) (record { bytes = refl; place = refl }))
 
 -- text written where there is room is what `put` says
 pub put-written : {l out : List ℕ} {at end : ℕ} {text : List ℕ} (room : ℕ) → at + room ≤ length l → Written l out at end text →

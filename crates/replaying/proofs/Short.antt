@@ -11,7 +11,9 @@ use Rattle.model.specs.Refusals.{Outcome}
 use Rattle.model.specs.Calls.{line, advance, read, write, notification, respond, make}
 use Rattle.commands.specs.declared.Command.{Command}
 use Rattle.commands.specs.declared.Command.the-variants.{Make, Line, Advance, Read, Write, Notify, Unreadable}
-use Rattle.commands.specs.Grammar.{commandOf}
+use Rattle.commands.specs.declared.Opening.{Opening}
+use Rattle.commands.specs.declared.Opening.the-variants as opening
+use Rattle.commands.specs.Grammar.{commandOf, openingOf}
 use Rattle.replaying.specs.Replay.{digitsIn, digits, refusedLine, valueLine, Stand, before, on, ended, goesOn, silent, commanded, kindBytes, started, badStart, firstLine, answer}
 
 places : (j n : ℕ) → length (digitsIn j n) ≤ j
@@ -55,18 +57,13 @@ started-short : (o : Outcome) → length (started o .prints) ≤ 29
 unfolding started
 started-short o = cond-elim (λ (l : List ℕ). length l ≤ 29) (eqb (o .number) 0) {x = []} {y = refusedLine (o .number)} (λ _. omega arith) (λ _. refused-short (o .number))
 
-first-short : (c : Command) (bytes : List ℕ) → length (firstLine c bytes .prints) ≤ 29
+first-short : (o : Opening) (bytes : List ℕ) → length (firstLine o bytes .prints) ≤ 29
 unfolding firstLine badStart
-first-short (Make n m b k) bytes = started-short (make n m b (kindBytes (drop k bytes)))
-first-short (Line i v) bytes = refused-short 11
-first-short (Advance n) bytes = refused-short 11
-first-short (Read off) bytes = refused-short 11
-first-short (Write off v) bytes = refused-short 11
-first-short (Notify c) bytes = refused-short 11
-first-short Unreadable bytes = refused-short 11
+first-short (opening.Board n m b k) bytes = started-short (make n m b (kindBytes (drop k bytes)))
+first-short opening.Unreadable bytes = refused-short 11
 
 pub answer-short : (p : Stand) (l : List ℕ) → length (answer p l .prints) ≤ 29
 unfolding answer
-answer-short before l = first-short (commandOf l) l
+answer-short before l = first-short (openingOf (commandOf l)) l
 answer-short (on s) l = commanded-short (commandOf l) s
 answer-short ended l = omega arith

@@ -13,7 +13,7 @@ use lib.ListN.{length, take, drop, take-append-drop}
 use lib.Seq.{take-length, length-take-le, take-all}
 use borrow.Author.Tests.{lt-ltb, leb-true, leb-false}
 use Rattle.laws.proofs.Truth.{cond-so, dichotomy}
-use Rattle.commands.specs.Grammar.{commandOf}
+use Rattle.commands.specs.Grammar.{commandOf, openingOf}
 use Rattle.commands.specs.declared.Command.{Command}
 use Rattle.commands.specs.declared.Command.the-variants.{Unreadable}
 use Rattle.replaying.specs.Replay.{Stand, before, on, ended, Told, commanded, firstLine, answer, Replay, lineEnds, fed, fedAll}
@@ -124,8 +124,8 @@ unfolding commandOf
 too-long l h = cond-so _ _ (lt-ltb 255 (length l) h)
 
 pub unreadable-answer : (p : Stand) (l m : List ℕ) → commandOf l ≡ Unreadable → commandOf m ≡ Unreadable → answer p l ≡ answer p m
-unfolding answer firstLine
-unreadable-answer before l m e f = ap (λ (c : Command). firstLine c l) e ∙ sym (ap (λ (c : Command). firstLine c m) f)
+unfolding answer firstLine openingOf
+unreadable-answer before l m e f = ap (λ (c : Command). firstLine (openingOf c) l) e ∙ sym (ap (λ (c : Command). firstLine (openingOf c) m) f)
 unreadable-answer (on s) l m e f = ap (λ (c : Command). commanded c s) (e ∙ sym f)
 unreadable-answer ended l m e f = refl
 

@@ -10,7 +10,9 @@ use Rattle.model.specs.Refusals.{Outcome}
 use Rattle.model.specs.Calls.{line, advance, read, write, notification, totals, valuesOf, respond, make}
 use Rattle.commands.specs.declared.Command.{Command}
 use Rattle.commands.specs.declared.Command.the-variants.{Make, Line, Advance, Read, Write, Notify, Unreadable}
-use Rattle.commands.specs.Grammar.{commandOf}
+use Rattle.commands.specs.declared.Opening.{Opening}
+use Rattle.commands.specs.declared.Opening.the-variants as opening
+use Rattle.commands.specs.Grammar.{commandOf, openingOf}
 
 -- a number in decimal, of at most 20 digits
 unfoldable pub digitsIn : ℕ → ℕ → List ℕ
@@ -86,17 +88,12 @@ unfoldable pub badStart : Told
 badStart = record { stand = ended; prints = refusedLine 11 }
 
 -- "`P N C b kinds` must come first (any other first line is unreadable)"
-unfoldable pub firstLine : Command → List ℕ → Told
-firstLine (Make n c b k) bytes = started (make n c b (kindBytes (drop k bytes)))
-firstLine (Line i v) bytes = badStart
-firstLine (Advance n) bytes = badStart
-firstLine (Read off) bytes = badStart
-firstLine (Write off v) bytes = badStart
-firstLine (Notify c) bytes = badStart
-firstLine Unreadable bytes = badStart
+unfoldable pub firstLine : Opening → List ℕ → Told
+firstLine (opening.Board n c b k) bytes = started (make n c b (kindBytes (drop k bytes)))
+firstLine opening.Unreadable bytes = badStart
 
 unfoldable pub answer : Stand → List ℕ → Told
-answer before bytes = firstLine (commandOf bytes) bytes
+answer before bytes = firstLine (openingOf (commandOf bytes)) bytes
 answer (on s) bytes = commanded (commandOf bytes) s
 answer ended bytes = record { stand = ended; prints = [] }
 

@@ -3,19 +3,20 @@
 use native.Mathlib.Omega.{arith}
 use lib.ListN.{length}
 use borrow.Author.Tests.{lt-ltb, le-ltb, eq-eqb, ne-eqb}
+use Rattle.limits.specs.Limits.{lineRoom}
 use Rattle.commands.specs.Leaves.{letterOf}
 use Rattle.commands.proofs.letter_of.Statement.{statement}
 use Rattle.commands.proofs.letter_of.Tie as tie
 
 returns : tie.Need-returns
 unfolding letterOf
-returns c = simp (lt-ltb 255 (length (c .before .args .line .now)) (omega arith))
+returns c = simp (lt-ltb lineRoom (length (c .before .args .line .now)) (omega arith))
 
 returns-2 : tie.Need-returns-2
 unfolding letterOf
 returns-2 c =
     let l = c .before .before .args .line .now in
-    simp (le-ltb 255 (length l) (omega arith), lt-ltb (length l) 2 (omega arith))
+    simp (le-ltb lineRoom (length l) (omega arith), lt-ltb (length l) 2 (omega arith))
 
 shared-slice-read-space : tie.Need-shared-slice-read-space
 shared-slice-read-space c = omega arith
@@ -24,7 +25,7 @@ returns-3 : tie.Need-returns-3
 unfolding letterOf
 returns-3 c =
     let l = c .before .before .before .before .args .line .now in
-    simp (le-ltb 255 (length l) (omega arith), le-ltb (length l) 2 (omega arith), ne-eqb _ _ (c .if3 .taken))
+    simp (le-ltb lineRoom (length l) (omega arith), le-ltb (length l) 2 (omega arith), ne-eqb _ _ (c .if3 .taken))
 
 shared-slice-read-result : tie.Need-shared-slice-read-result
 shared-slice-read-result c = omega arith
@@ -33,7 +34,7 @@ returns-4 : tie.Need-returns-4
 unfolding letterOf
 returns-4 c =
     let l = c .before .before .before .before .before .args .line .now in
-    simp (le-ltb 255 (length l) (omega arith), le-ltb (length l) 2 (omega arith), eq-eqb _ _ (c .before .if3 .left))
+    simp (le-ltb lineRoom (length l) (omega arith), le-ltb (length l) 2 (omega arith), eq-eqb _ _ (c .before .if3 .left))
 
 pub letter-of-spec : {M : Type 1} → statement M
 letter-of-spec =

@@ -5,10 +5,10 @@ use Rattle.probe.proofs.main.Statement.{statement}
 use Rattle.probe.proofs.main.Tie as tie
 
 abbrev Inv-loop : tie.InvT-loop
-Inv-loop desk₀ turns₀ desk turns = Unit {0}
+Inv-loop reader₀ turns₀ reader turns = Unit {0}
 
 abbrev μ-loop : tie.MeasureT-loop
-μ-loop desk₀ turns₀ desk turns = turns
+μ-loop reader₀ turns₀ reader turns = turns
 
 new-requires : tie.Need-new-requires Inv-loop μ-loop
 new-requires c κs = tt

@@ -2,47 +2,24 @@
 -- Assumes nothing.
 use borrow.Author.Needs.{needs}
 use mathlib.Core.Path.{_≡_, _∙_, sym}
-use mathlib.Core.List.{List, [], _∷_}
+use mathlib.Core.List.{List}
 use Prim.Native.Nat.{ℕ, _+_, _≤_}
 use native.Mathlib.Omega.{arith}
 use lib.ListN.{length, drop}
 use Rattle.commands.specs.declared.Command.{Command}
-use Rattle.commands.specs.declared.scan.Value.the-variants.{Is}
 use Rattle.commands.specs.Grammar.{isNumber, decimal, words}
-use Rattle.commands.specs.Leaves.{valued, kindsOf, makeOf, numberAt}
-use Rattle.commands.proofs.Words.{value-missing, value-within, value-next, empty-valued, empty-number}
+use Rattle.commands.specs.Leaves.{valued, kindsOf, makeOf}
+use Rattle.commands.proofs.Words.{empty-valued, empty-number, First, first}
 use Rattle.commands.proofs.Last.{empty-kinds, kinds-so, kinds-not}
 use Rattle.commands.proofs.forms.make_of.Statement.{statement}
 use Rattle.commands.proofs.forms.make_of.Tie as tie
 
--- once a number is known: the line, the number, and where it ends
-abbrev text : tie.After-known-told → List ℕ
-text c = c .before .before .before .before .before .args .line .now
+-- the line, and what it asks for
+abbrev text : tie.After-number-at → List ℕ
+text c = c .before .before .args .line .now
 
-abbrev n : tie.After-known-told → ℕ
-n c = c .before .sources .given .0 .0
-
-abbrev n-end : tie.After-known-told → ℕ
-n-end c = c .before .sources .given .0 .1 .0
-
-abbrev m : tie.After-known-told2 → ℕ
-m c = c .before .contexts .given .0 .0
-
-abbrev m-end : tie.After-known-told2 → ℕ
-m-end c = c .before .contexts .given .0 .1 .0
-
-abbrev k : tie.After-known-told3 → ℕ
-k c = c .before .bits .given .0 .0
-
-abbrev k-end : tie.After-known-told3 → ℕ
-k-end c = c .before .bits .given .0 .1 .0
-
--- the places before a later one
-abbrev first : tie.After-known-told2 → tie.After-known-told
-first c = c .before .before .before .before
-
-abbrev second : tie.After-known-told3 → tie.After-known-told2
-second c = c .before .before .before .before
+abbrev asked : tie.After-number-at → Command
+asked c = makeOf (length (text c)) (words (drop 2 (text c)))
 
 -- what is asked for after the first number, and after the second
 abbrev contexts-of : ℕ → ℕ → List (List ℕ) → Command
@@ -51,41 +28,72 @@ contexts-of long x = valued isNumber decimal (λ y. valued isNumber decimal (λ 
 abbrev bits-of : ℕ → ℕ → ℕ → List (List ℕ) → Command
 bits-of long x y = valued isNumber decimal (λ z. kindsOf long x y z)
 
--- past a number: what the words from the next place on ask for, and that the number ends within the line
-past : (f : ℕ → List (List ℕ) → Command) (l : List ℕ) (at v e : ℕ) → numberAt l at ≡ Is v e → f v [] ≡ f v ([] ∷ []) →
-    (valued isNumber decimal f (words (drop at l)) ≡ f v (words (drop (e + 1) l))) × (e ≤ length l)
-past f l at v e here same =
-    (value-next isNumber decimal l at v e here f same, value-within isNumber empty-number l v e decimal at here)
+-- once a number is known: the places before, the number, and where it ends
+abbrev one : tie.After-known-told → tie.After-number-at
+one c = c .before .before .before
 
--- what the line asks for, by the words from the place after e on
-abbrev Asks : List ℕ → ℕ → (List (List ℕ) → Command) → Type 0
-Asks l e f = (makeOf (length l) (words (drop 2 l)) ≡ f (words (drop (e + 1) l))) × (e ≤ length l)
+abbrev n : tie.After-known-told → ℕ
+n c = c .before .sources .given .0 .0
 
-sources-known : (c : tie.After-known-told) → Asks (text c) (n-end c) (contexts-of (length (text c)) (n c))
+abbrev n-end : tie.After-known-told → ℕ
+n-end c = c .before .sources .given .0 .1 .0
+
+abbrev two : tie.After-known-told2 → tie.After-number-at2
+two c = c .before .before .before
+
+abbrev m : tie.After-known-told2 → ℕ
+m c = c .before .contexts .given .0 .0
+
+abbrev m-end : tie.After-known-told2 → ℕ
+m-end c = c .before .contexts .given .0 .1 .0
+
+abbrev three : tie.After-known-told3 → tie.After-number-at3
+three c = c .before .before .before
+
+abbrev k : tie.After-known-told3 → ℕ
+k c = c .before .bits .given .0 .0
+
+abbrev k-end : tie.After-known-told3 → ℕ
+k-end c = c .before .bits .given .0 .1 .0
+
+-- the line, from the later places
+abbrev text-2 : tie.After-number-at2 → List ℕ
+text-2 c = text (one (c .before))
+
+abbrev asked-2 : tie.After-number-at2 → Command
+asked-2 c = asked (one (c .before))
+
+abbrev text-3 : tie.After-number-at3 → List ℕ
+text-3 c = text-2 (two (c .before))
+
+abbrev asked-3 : tie.After-number-at3 → Command
+asked-3 c = asked-2 (two (c .before))
+
+-- each number
+sources : (c : tie.After-number-at) → First (contexts-of (length (text c))) (text c) (c .number-at .result) (asked c)
 unfolding makeOf
-sources-known c =
-    past (contexts-of (length (text c))) (text c) 2 (n c) (n-end c) (sym (c .before .before .before .number-at .ensures) ∙ c .before .sources .given .1)
-    (empty-valued isNumber decimal (bits-of (length (text c)) (n c)) empty-number)
+sources c =
+    first isNumber decimal empty-number (text c) 2 (c .number-at .ensures) (contexts-of (length (text c)))
+    (λ x. empty-valued isNumber decimal _ empty-number)
 
-contexts-known : (c : tie.After-known-told2) →
-    Asks (text (first c)) (m-end c) (bits-of (length (text (first c))) (n (first c)) (m c))
-contexts-known c =
-    let s = first c in
-    let next = past (bits-of (length (text s)) (n s)) (text s) (n-end s + 1) (m c) (m-end c)
-    (sym (c .before .before .before .number-at2 .ensures) ∙ c .before .contexts .given .1)
-    (empty-valued isNumber decimal (kindsOf (length (text s)) (n s) (m c)) empty-number) in
-    (sources-known s .0 ∙ next .0, next .1)
+contexts : (c : tie.After-number-at2) → First (bits-of (length (text-2 c)) (n (c .before))) (text-2 c) (c .number-at2 .result) (asked-2 c)
+contexts c =
+    let d = c .before in
+    rw (sources (one d) .next (d .before .sources .given .1))
+    (first isNumber decimal empty-number (text-2 c) (n-end d + 1) (c .number-at2 .ensures) (bits-of (length (text-2 c)) (n d))
+    (λ y. empty-valued isNumber decimal _ empty-number))
 
-bits-known : (c : tie.After-known-told3) →
-    Asks (text (first (second c))) (k-end c)
-    (kindsOf (length (text (first (second c)))) (n (first (second c))) (m (second c)) (k c))
-bits-known c =
-    let s = first (second c) in
-    let t = second c in
-    let next = past (kindsOf (length (text s)) (n s) (m t)) (text s) (m-end t + 1) (k c) (k-end c)
-    (sym (c .before .before .before .number-at3 .ensures) ∙ c .before .bits .given .1)
-    (empty-kinds (length (text s)) (n s) (m t) (k c)) in
-    (contexts-known t .0 ∙ next .0, next .1)
+bits : (c : tie.After-number-at3) → let d = c .before in
+    First (kindsOf (length (text-3 c)) (n (two d .before)) (m d)) (text-3 c) (c .number-at3 .result) (asked-3 c)
+bits c =
+    let d = c .before in
+    let x = n (two d .before) in
+    rw (contexts (two d) .next (d .before .contexts .given .1))
+    (first isNumber decimal empty-number (text-3 c) (m-end d + 1) (c .number-at3 .ensures) (kindsOf (length (text-3 c)) x (m d))
+    (empty-kinds (length (text-3 c)) x (m d)))
+
+bits-within : (c : tie.After-known-told3) → k-end c ≤ length (text-3 (three c))
+bits-within c = bits (three c) .within (c .before .bits .given .1)
 
 number-at-requires : tie.Need-number-at-requires
 number-at-requires c κs = search needs
@@ -97,14 +105,10 @@ enum-told : tie.Need-enum-told
 enum-told c = search needs
 
 returns : tie.Need-returns
-unfolding makeOf
-returns c =
-    let l = c .before .before .before .before .args .line .now in
-    let missing = sym (c .before .before .number-at .ensures) ∙ c .enum-told .given .1 in
-    sym (value-missing isNumber decimal (contexts-of (length l)) l 2 missing)
+returns c = sources (c .before .before) .missing (c .enum-told .given .1)
 
 add-number-at : tie.Need-add-number-at
-add-number-at c = omega (arith, sources-known c .1)
+add-number-at c = omega (arith, sources (one c) .within (c .before .sources .given .1))
 
 number-at-requires-2 : tie.Need-number-at-requires-2
 number-at-requires-2 c κs = search needs
@@ -116,13 +120,10 @@ enum-told-2 : tie.Need-enum-told-2
 enum-told-2 c = search needs
 
 returns-2 : tie.Need-returns-2
-returns-2 c =
-    let s = c .before .before .before in
-    let missing = sym (c .before .before .number-at2 .ensures) ∙ c .enum-told2 .given .1 in
-    sym (sources-known s .0 ∙ value-missing isNumber decimal (bits-of (length (text s)) (n s)) (text s) (n-end s + 1) missing)
+returns-2 c = contexts (c .before .before) .missing (c .enum-told2 .given .1)
 
 add-number-at-2 : tie.Need-add-number-at-2
-add-number-at-2 c = omega (arith, contexts-known c .1)
+add-number-at-2 c = omega (arith, contexts (two c) .within (c .before .contexts .given .1))
 
 number-at-requires-3 : tie.Need-number-at-requires-3
 number-at-requires-3 c κs = search needs
@@ -134,34 +135,35 @@ enum-told-3 : tie.Need-enum-told-3
 enum-told-3 c = search needs
 
 returns-3 : tie.Need-returns-3
-returns-3 c =
-    let t = c .before .before .before in
-    let s = first t in
-    let missing = sym (c .before .before .number-at3 .ensures) ∙ c .enum-told3 .given .1 in
-    sym (contexts-known t .0 ∙ value-missing isNumber decimal (kindsOf (length (text s)) (n s) (m t)) (text s) (m-end t + 1) missing)
+returns-3 c = bits (c .before .before) .missing (c .enum-told3 .given .1)
 
 add-kinds-at : tie.Need-add-kinds-at
-add-kinds-at c = omega (arith, bits-known c .1)
+add-kinds-at c = omega (arith, bits-within c)
 
 kinds-at-requires : tie.Need-kinds-at-requires
 kinds-at-requires c κs = search needs
 
 add-t13 : tie.Need-add-t13
-add-t13 c = omega (arith, bits-known (c .before .before) .1)
+add-t13 c = omega (arith, bits-within (c .before .before))
+
+-- the bytes after the numbers
+kinds : (c : tie.After-known-told3) → let e = three c in
+    asked-3 e ≡ kindsOf (length (text-3 e)) (n (two (e .before) .before)) (m (e .before)) (k c) (words (drop (k-end c + 1) (text-3 e)))
+kinds c = bits (three c) .next (c .before .bits .given .1)
 
 returns-4 : tie.Need-returns-4
 returns-4 c =
-    let u = c .before .before in
-    let s = first (second u) in
-    sym (bits-known u .0
-    ∙ kinds-so (n s) (m (second u)) (k u) (text s) (k-end u + 1) (sym (c .before .kinds-at .ensures) ∙ c .if1 .taken))
+    let d = c .before .before in
+    let e = three d in
+    let is = sym (c .before .kinds-at .ensures) ∙ c .if1 .taken in
+    sym (kinds d ∙ kinds-so (n (two (e .before) .before)) (m (e .before)) (k d) (text-3 e) (k-end d + 1) is)
 
 returns-5 : tie.Need-returns-5
 returns-5 c =
-    let u = c .before .before in
-    let s = first (second u) in
-    sym (bits-known u .0
-    ∙ kinds-not (n s) (m (second u)) (k u) (text s) (k-end u + 1) (sym (c .before .kinds-at .ensures) ∙ c .if1 .left))
+    let d = c .before .before in
+    let e = three d in
+    let not = sym (c .before .kinds-at .ensures) ∙ c .if1 .left in
+    sym (kinds d ∙ kinds-not (n (two (e .before) .before)) (m (e .before)) (k d) (text-3 e) (k-end d + 1) not)
 
 pub make-of-spec : {M : Type 1} → statement M
 make-of-spec =

@@ -1,14 +1,18 @@
 -- `forms::read_of` meets its contract: no offset; an offset that ends the line; or one that does not.
 -- Assumes nothing.
 use borrow.Author.Needs.{needs}
-use mathlib.Core.Path.{_∙_, sym}
 use native.Mathlib.Omega.{arith}
+use lib.ListN.{drop}
 use Rattle.commands.specs.declared.Command.the-variants.{Read}
-use Rattle.commands.specs.Grammar.{isOffset, hex}
-use Rattle.commands.specs.Leaves.{ended, readOf}
-use Rattle.commands.proofs.Words.{value-missing, value-last, value-not-last, empty-offset}
+use Rattle.commands.specs.Grammar.{isOffset, hex, words}
+use Rattle.commands.specs.Leaves.{readOf}
+use Rattle.commands.proofs.Words.{empty-offset, Only, only}
 use Rattle.commands.proofs.forms.read_of.Statement.{statement}
 use Rattle.commands.proofs.forms.read_of.Tie as tie
+
+word : (c : tie.After-offset-at) → let l = c .before .before .args .line .now in Only Read l (c .offset-at .result) (readOf (words (drop 2 l)))
+unfolding readOf
+word c = only isOffset hex empty-offset (c .before .before .args .line .now) 2 (c .offset-at .ensures) Read
 
 offset-at-requires : tie.Need-offset-at-requires
 offset-at-requires c κs = omega arith
@@ -20,24 +24,13 @@ enum-told : tie.Need-enum-told
 enum-told c = search needs
 
 returns : tie.Need-returns
-unfolding readOf
-returns c =
-    let missing = sym (c .before .before .offset-at .ensures) ∙ c .enum-told .given .1 in
-    sym (value-missing isOffset hex (λ n. ended (Read n)) (c .before .before .before .before .args .line .now) 2 missing)
+returns c = word (c .before .before) .missing (c .enum-told .given .1)
 
 returns-2 : tie.Need-returns-2
-unfolding readOf
-returns-2 c =
-    let word = c .before .before .offset .given in
-    let here = sym (c .before .before .before .before .offset-at .ensures) ∙ word .1 in
-    sym (value-last isOffset hex (c .before .before .before .before .before .before .args .line .now) 2 (word .0 .0) (word .0 .1 .0) here Read (c .if1 .taken))
+returns-2 c = word (c .before .before .before .before) .last (c .before .before .offset .given .1) (c .if1 .taken)
 
 returns-3 : tie.Need-returns-3
-unfolding readOf
-returns-3 c =
-    let word = c .before .before .offset .given in
-    let here = sym (c .before .before .before .before .offset-at .ensures) ∙ word .1 in
-    sym (value-not-last isOffset hex (c .before .before .before .before .before .before .args .line .now) 2 (word .0 .0) (word .0 .1 .0) here Read empty-offset (c .if1 .left))
+returns-3 c = word (c .before .before .before .before) .not-last (c .before .before .offset .given .1) (c .if1 .left)
 
 pub read-of-spec : {M : Type 1} → statement M
 read-of-spec =

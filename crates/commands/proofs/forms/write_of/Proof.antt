@@ -1,41 +1,46 @@
 -- `forms::write_of` meets its contract: no offset; or one, and then no number, a number that ends the line, or one that does not.
 -- Assumes nothing.
 use borrow.Author.Needs.{needs}
-use mathlib.Core.Path.{_≡_, _∙_, sym}
 use mathlib.Core.List.{List}
-use Prim.Native.Nat.{ℕ, _+_, _≤_}
+use Prim.Native.Nat.{ℕ, _+_}
 use native.Mathlib.Omega.{arith}
-use lib.ListN.{length, drop}
+use lib.ListN.{drop}
 use Rattle.commands.specs.declared.Command.{Command}
 use Rattle.commands.specs.declared.Command.the-variants.{Write}
 use Rattle.commands.specs.Grammar.{isNumber, decimal, isOffset, hex, words}
 use Rattle.commands.specs.Leaves.{valued, ended, writeOf}
-use Rattle.commands.proofs.Words.{value-missing, value-within, value-next, value-last, value-not-last, empty-valued, empty-number, empty-offset}
+use Rattle.commands.proofs.Words.{empty-valued, empty-number, empty-offset, Only, First, only, first}
 use Rattle.commands.proofs.forms.write_of.Statement.{statement}
 use Rattle.commands.proofs.forms.write_of.Tie as tie
 
--- once the offset is known: the line, the offset, and where it ends
-abbrev text : tie.After-known-told → List ℕ
-text c = c .before .before .before .before .before .args .line .now
+-- the line, what it asks for, and what its words after the offset ask for
+abbrev text : tie.After-offset-at → List ℕ
+text c = c .before .before .args .line .now
+
+abbrev asked : tie.After-offset-at → Command
+asked c = writeOf (words (drop 2 (text c)))
+
+abbrev value-of : ℕ → List (List ℕ) → Command
+value-of o = valued isNumber decimal (λ n. ended (Write o n))
+
+-- the offset, and the place before a later one
+offset : (c : tie.After-offset-at) → First value-of (text c) (c .offset-at .result) (asked c)
+unfolding writeOf
+offset c = first isOffset hex empty-offset (text c) 2 (c .offset-at .ensures) value-of (λ o. empty-valued isNumber decimal _ empty-number)
+
+abbrev before : tie.After-known-told → tie.After-offset-at
+before c = c .before .before .before
 
 abbrev off : tie.After-known-told → ℕ
 off c = c .before .offset .given .0 .0
 
-abbrev off-end : tie.After-known-told → ℕ
-off-end c = c .before .offset .given .0 .1 .0
-
--- what is asked for after the offset
-abbrev value-of : ℕ → List (List ℕ) → Command
-value-of o = valued isNumber decimal (λ n. ended (Write o n))
-
-offset-known : (c : tie.After-known-told) →
-    (writeOf (words (drop 2 (text c))) ≡ value-of (off c) (words (drop (off-end c + 1) (text c)))) × (off-end c ≤ length (text c))
-unfolding writeOf
-offset-known c =
-    let here = sym (c .before .before .before .offset-at .ensures) ∙ c .before .offset .given .1 in (
-      value-next isOffset hex (text c) 2 (off c) (off-end c) here value-of (empty-valued isNumber decimal _ empty-number),
-      value-within isOffset empty-offset (text c) (off c) (off-end c) hex 2 here,
-    )
+-- the value
+value : (c : tie.After-number-at) → let d = before (c .before) in Only (Write (off (c .before))) (text d) (c .number-at .result) (asked d)
+value c =
+    let d = c .before in
+    let end = d .before .offset .given .0 .1 .0 in
+    rw (offset (before d) .next (d .before .offset .given .1))
+    (only isNumber decimal empty-number (text (before d)) (end + 1) (c .number-at .ensures) (Write (off d)))
 
 offset-at-requires : tie.Need-offset-at-requires
 offset-at-requires c κs = omega arith
@@ -47,13 +52,10 @@ enum-told : tie.Need-enum-told
 enum-told c = search needs
 
 returns : tie.Need-returns
-unfolding writeOf
-returns c =
-    let missing = sym (c .before .before .offset-at .ensures) ∙ c .enum-told .given .1 in
-    sym (value-missing isOffset hex value-of (c .before .before .before .before .args .line .now) 2 missing)
+returns c = offset (c .before .before) .missing (c .enum-told .given .1)
 
 add-number-at : tie.Need-add-number-at
-add-number-at c = omega (arith, offset-known c .1)
+add-number-at c = omega (arith, offset (before c) .within (c .before .offset .given .1))
 
 number-at-requires : tie.Need-number-at-requires
 number-at-requires c κs = search needs
@@ -65,26 +67,13 @@ enum-told-2 : tie.Need-enum-told-2
 enum-told-2 c = search needs
 
 returns-2 : tie.Need-returns-2
-returns-2 c =
-    let k = c .before .before .before in
-    let missing = sym (c .before .before .number-at .ensures) ∙ c .enum-told2 .given .1 in
-    sym (offset-known k .0 ∙ value-missing isNumber decimal (λ n. ended (Write (off k) n)) (text k) (off-end k + 1) missing)
+returns-2 c = value (c .before .before) .missing (c .enum-told2 .given .1)
 
 returns-3 : tie.Need-returns-3
-returns-3 c =
-    let k = c .before .before .before .before .before in
-    let word = c .before .before .value .given in
-    let here = sym (c .before .before .before .before .number-at .ensures) ∙ word .1 in
-    sym (offset-known k .0
-    ∙ value-last isNumber decimal (text k) (off-end k + 1) (word .0 .0) (word .0 .1 .0) here (Write (off k)) (c .if1 .taken))
+returns-3 c = value (c .before .before .before .before) .last (c .before .before .value .given .1) (c .if1 .taken)
 
 returns-4 : tie.Need-returns-4
-returns-4 c =
-    let k = c .before .before .before .before .before in
-    let word = c .before .before .value .given in
-    let here = sym (c .before .before .before .before .number-at .ensures) ∙ word .1 in
-    sym (offset-known k .0
-    ∙ value-not-last isNumber decimal (text k) (off-end k + 1) (word .0 .0) (word .0 .1 .0) here (Write (off k)) empty-number (c .if1 .left))
+returns-4 c = value (c .before .before .before .before) .not-last (c .before .before .value .given .1) (c .if1 .left)
 
 pub write-of-spec : {M : Type 1} → statement M
 write-of-spec =

@@ -2,12 +2,17 @@
 -- Assumes nothing.
 use borrow.Author.Needs.{needs}
 use mathlib.Core.Path.{_≡_, _∙_, refl, sym, ap}
+use mathlib.Core.Bool.{cond, So}
 use mathlib.Core.List.{List}
 use Prim.Native.Nat.{ℕ, _+_, _-_, _*_, _<_, _≤_}
 use native.Mathlib.Omega.{arith}
+use lib.Dec.{eqb, leb}
 use lib.ListN.{length, getD, drop, drop-of-length-le}
 use borrow.Author.Tests.{eq-eqb, ne-eqb, le-leb, lt-leb, not-true, not-false}
 use Rattle.laws.proofs.Truth.{cond-so, cond-not}
+use Rattle.commands.specs.declared.scan.Value.{Value}
+use Rattle.commands.specs.declared.scan.Value.the-variants.{Is, Nothing}
+use Rattle.commands.specs.Grammar.{isDigit}
 use Rattle.commands.specs.Leaves.{digitsFrom}
 use Rattle.commands.proofs.Digits.{digit-bounds, digits-step}
 use Rattle.commands.proofs.scan.digits_from.Statement.{statement}
@@ -28,23 +33,49 @@ shared-slice-read-b c = omega arith
 cast-t11 : tie.Need-cast-t11 Inv-loop μ-loop
 cast-t11 c = omega arith
 
+-- the places before a later one, and the byte that is read
+abbrev turn : tie.After-shared-slice-known2 Inv-loop μ-loop → tie.At-loop Inv-loop μ-loop
+turn c = c .before .before
+
+abbrev text : tie.At-loop Inv-loop μ-loop → List ℕ
+text c = c .before .before .args .line .now
+
+abbrev byte : tie.At-loop Inv-loop μ-loop → ℕ
+byte c = getD (text c) (c .loop .i) 0
+
+abbrev digit-read : tie.Else2 Inv-loop μ-loop → tie.At-loop Inv-loop μ-loop
+digit-read c = turn (c .before .before .before)
+
+-- the answer, and what it comes to once the byte is known to be no space, and to be a digit
+abbrev asked : tie.At-loop Inv-loop μ-loop → Value
+asked c = let a = c .before .before .args in digitsFrom (a .first) (drop (a .from) (text c)) (a .from)
+
+abbrev after : tie.At-loop Inv-loop μ-loop → Value
+after c =
+    let v = c .loop .v * 10 + (byte c - 48) in
+    cond (leb v 4294967295) (digitsFrom v (drop (c .loop .i + 1) (text c)) (c .loop .i + 1)) Nothing
+
+at-byte : (c : tie.After-shared-slice-known2 Inv-loop μ-loop) → let l = turn c in
+    asked l ≡ cond (eqb (byte l) 32) (Is (l .loop .v) (l .loop .i)) (cond (isDigit (byte l)) (after l) Nothing)
+at-byte c = let l = turn c in sym (l .loop .inv .2) ∙ digits-step (text l) (l .loop .v) (l .loop .i) (c .before .loop-test .taken)
+
+no-space : (c : tie.Else1 Inv-loop μ-loop) → let l = turn (c .before) in asked l ≡ cond (isDigit (byte l)) (after l) Nothing
+no-space c = at-byte (c .before) ∙ cond-not _ _ (ne-eqb _ _ (c .if1 .left))
+
+is-digit-here : (c : tie.Else2 Inv-loop μ-loop) → So (isDigit (byte (digit-read c)))
+is-digit-here c = sym (c .before .is-digit .ensures) ∙ not-false _ (c .if2 .left)
+
+a-digit : (c : tie.Else2 Inv-loop μ-loop) → asked (digit-read c) ≡ after (digit-read c)
+a-digit c = no-space (c .before .before) ∙ cond-so _ _ (is-digit-here c)
+
 returns : tie.Need-returns Inv-loop μ-loop
-returns c =
-    let l = c .before .before .before .loop in
-    sym (sym (l .inv .2)
-    ∙ digits-step (c .before .before .before .before .before .args .line .now) (l .v) (l .i) (c .before .before .loop-test .taken)
-    ∙ cond-so _ _ (eq-eqb _ _ (c .if1 .taken)))
+returns c = sym (at-byte (c .before) ∙ cond-so _ _ (eq-eqb _ _ (c .if1 .taken)))
 
 is-digit-requires : tie.Need-is-digit-requires Inv-loop μ-loop
 is-digit-requires c κs = search needs
 
 returns-2 : tie.Need-returns-2 Inv-loop μ-loop
-returns-2 c =
-    let l = c .before .before .before .before .before .loop in
-    sym (sym (l .inv .2)
-    ∙ digits-step (c .before .before .before .before .before .before .before .args .line .now) (l .v) (l .i) (c .before .before .before .before .loop-test .taken)
-    ∙ cond-not _ _ (ne-eqb _ _ (c .before .before .if1 .left))
-    ∙ cond-not _ _ (sym (c .before .is-digit .ensures) ∙ not-true _ (c .if2 .taken)))
+returns-2 c = sym (no-space (c .before .before) ∙ cond-not _ _ (sym (c .before .is-digit .ensures) ∙ not-true _ (c .if2 .taken)))
 
 mul-v : tie.Need-mul-v Inv-loop μ-loop
 mul-v c = omega arith
@@ -53,23 +84,16 @@ wide-requires : tie.Need-wide-requires Inv-loop μ-loop
 wide-requires c κs = search needs
 
 sub-v : tie.Need-sub-v Inv-loop μ-loop
-sub-v c =
-    let byte = getD (c .before .before .before .before .before .before .before .before .args .line .now) (c .before .before .before .before .before .before .loop .i) 0 in
-    omega (arith, digit-bounds byte (sym (c .before .before .is-digit .ensures) ∙ not-false _ (c .before .if2 .left)))
+sub-v c = omega (arith, digit-bounds (byte (digit-read (c .before))) (is-digit-here (c .before)))
 
 add-v : tie.Need-add-v Inv-loop μ-loop
 add-v c = omega arith
 
 returns-3 : tie.Need-returns-3 Inv-loop μ-loop
 returns-3 c =
-    let l = c .before .before .before .before .before .before .before .loop in
-    let byte = getD (c .before .before .before .before .before .before .before .before .before .args .line .now) (l .i) 0 in
-    let past : 4294967295 < l .v * 10 + (byte - 48) = omega (arith, c .before .wide .ensures .0) in
-    sym (sym (l .inv .2)
-    ∙ digits-step (c .before .before .before .before .before .before .before .before .before .args .line .now) (l .v) (l .i) (c .before .before .before .before .before .before .loop-test .taken)
-    ∙ cond-not _ _ (ne-eqb _ _ (c .before .before .before .before .if1 .left))
-    ∙ cond-so _ _ (sym (c .before .before .before .is-digit .ensures) ∙ not-false _ (c .before .before .if2 .left))
-    ∙ cond-not _ _ (lt-leb _ _ past))
+    let l = digit-read (c .before .before) in
+    let past : 4294967295 < l .loop .v * 10 + (byte l - 48) = omega (arith, c .before .wide .ensures .0) in
+    sym (a-digit (c .before .before) ∙ cond-not _ _ (lt-leb _ _ past))
 
 add-i : tie.Need-add-i Inv-loop μ-loop
 add-i c = omega arith
@@ -79,18 +103,13 @@ loop-less c = omega arith
 
 loop-again : tie.Need-loop-again Inv-loop μ-loop
 loop-again c =
-    let l = c .before .before .before .before .before .before .before .loop in
-    let line = c .before .before .before .before .before .before .before .before .before .args .line .now in
-    let byte = getD line (l .i) 0 in
-    let fits : l .v * 10 + (byte - 48) ≤ 4294967295 = omega (arith, c .before .wide .ensures .0) in (
+    let l = digit-read (c .before .before) in
+    let next = l .loop .i + 1 in
+    let fits : l .loop .v * 10 + (byte l - 48) ≤ 4294967295 = omega (arith, c .before .wide .ensures .0) in (
       omega arith,
       omega arith,
-      ap (λ (x : ℕ). digitsFrom (l .v * 10 + (x - 48)) (drop (l .i + 1) line) (l .i + 1)) (c .before .wide .ensures .0)
-          ∙ sym (digits-step line (l .v) (l .i) (c .before .before .before .before .before .before .loop-test .taken)
-          ∙ cond-not _ _ (ne-eqb _ _ (c .before .before .before .before .if1 .left))
-          ∙ cond-so _ _ (sym (c .before .before .before .is-digit .ensures) ∙ not-false _ (c .before .before .if2 .left))
-          ∙ cond-so _ _ (le-leb _ _ fits))
-          ∙ l .inv .2,
+      ap (λ (x : ℕ). digitsFrom (l .loop .v * 10 + (x - 48)) (drop next (text l)) next) (c .before .wide .ensures .0)
+          ∙ sym (a-digit (c .before .before) ∙ cond-so _ _ (le-leb _ _ fits)),
     )
 
 cast-t16 : tie.Need-cast-t16 Inv-loop μ-loop
@@ -101,7 +120,7 @@ unfolding digitsFrom
 returns-4 c =
     let l = c .before .loop in
     sym (sym (l .inv .2)
-    ∙ ap (λ (m : List ℕ). digitsFrom (l .v) m (l .i)) (drop-of-length-le (c .before .before .before .args .line .now) {i = l .i} (c .loop-test .left)))
+    ∙ ap (λ (m : List ℕ). digitsFrom (l .v) m (l .i)) (drop-of-length-le (text (c .before)) {i = l .i} (c .loop-test .left)))
 
 pub digits-from-spec : {M : Type 1} → statement M
 digits-from-spec =

@@ -22,7 +22,9 @@ shared-slice-read-if1 : tie.Need-shared-slice-read-if1 Inv-loop μ-loop
 shared-slice-read-if1 c = omega arith
 
 returns : tie.Need-returns Inv-loop μ-loop
-returns c = omega (arith, c .before .before .before .loop .inv, line-feed (c .before .before .before .before .args .input .now) (c .before .before .before .loop .i) (c .before .before .loop-test .taken) (c .if1 .taken))
+returns c =
+    let l = c .before .before .before .loop in
+    omega (arith, l .inv, line-feed (c .before .before .before .before .args .input .now) (l .i) (c .before .before .loop-test .taken) (c .if1 .taken))
 
 add-i : tie.Need-add-i Inv-loop μ-loop
 add-i c = omega arith

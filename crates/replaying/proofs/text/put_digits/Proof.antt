@@ -11,7 +11,9 @@ use Rattle.replaying.proofs.text.put_digits.Statement.{statement}
 use Rattle.replaying.proofs.text.put_digits.Tie as tie
 
 abbrev Inv-loop : tie.InvT-loop
-Inv-loop v output₀ at end rest₀ last₀ output rest last = (last ≡ at + length (digits rest)) × (sets output at (digits rest) ≡ sets output₀ at (digits v)) × (length output ≡ length output₀) × (last ≤ length output₀) × (rest ≤ v)
+Inv-loop v output₀ at end rest₀ last₀ output rest last =
+    (last ≡ at + length (digits rest)) × (sets output at (digits rest) ≡ sets output₀ at (digits v))
+    × (length output ≡ length output₀) × (last ≤ length output₀) × (rest ≤ v)
 
 abbrev μ-loop : tie.MeasureT-loop
 μ-loop v output₀ at end rest₀ last₀ output rest last = rest

@@ -1,22 +1,35 @@
 -- `text::put_said` meets its contract: no room, or each kind of answer.
 -- Assumes nothing.
-use mathlib.Core.Path.{refl, sym, ap, subst}
+use mathlib.Core.Path.{_≡_, refl, sym, subst}
+use mathlib.Core.List.{List}
+use Prim.Native.Nat.{ℕ, _+_, _≤_}
 use native.Mathlib.Nat.{add-zero}
 use native.Mathlib.Omega.{arith}
-use Rattle.replaying.specs.Text.{Written, saidBytes}
+use lib.ListN.{length}
+use Rattle.replaying.specs.declared.Said.{Said}
+use Rattle.replaying.specs.Text.{Written, saidBytes, put}
 use Rattle.replaying.proofs.Print.{put-written, put-nothing}
 use borrow.Author.Needs.{needs}
 use Rattle.replaying.proofs.text.put_said.Statement.{statement}
 use Rattle.replaying.proofs.text.put_said.Tie as tie
 
+-- what is said is known, and its bytes are written
+put-as : {said known : Said} {l out : List ℕ} {at end : ℕ} → said ≡ known → at + 20 ≤ length l → Written l out at end (saidBytes known) →
+    record { bytes = out; end = end } ≡ put 20 (saidBytes said) l at
+put-as {l = l} {out} {at} {end} e h w = put-written 20 h (subst (λ (s : Said). Written l out at end (saidBytes s)) (sym e) w)
+
 returns : tie.Need-returns
-returns c = (put-nothing (c .before .before .args .output .now) (c .before .before .args .at) 20 (saidBytes (c .before .before .args .said)) (omega arith), omega arith)
+returns c =
+    let a = c .before .before .args in
+    (put-nothing (a .output .now) (a .at) 20 (saidBytes (a .said)) (omega arith), omega arith)
 
 sub-if2 : tie.Need-sub-if2
 sub-if2 c = search needs
 
 returns-2 : tie.Need-returns-2
-returns-2 c = (put-nothing (c .before .before .before .args .output .now) (c .before .before .before .args .at) 20 (saidBytes (c .before .before .before .args .said)) (omega arith), omega arith)
+returns-2 c =
+    let a = c .before .before .before .args in
+    (put-nothing (a .output .now) (a .at) 20 (saidBytes (a .said)) (omega arith), omega arith)
 
 enum-told : tie.Need-enum-told
 enum-told c = search needs
@@ -36,8 +49,7 @@ put-refused-requires c κs = search needs
 returns-3 : tie.Need-returns-3
 unfolding saidBytes
 returns-3 c =
-    let a = c .before .before .before .before .before .args in
-    (put-written 20 (omega arith) (subst (Written (a .output .now) (a .output .now) (a .at) (a .at)) (ap saidBytes (sym (c .enum-told .given .1))) (record { bytes = refl; place = sym (add-zero (a .at)) })), omega arith)
+    (put-as (c .enum-told .given .1) (omega arith) (record { bytes = refl; place = sym (add-zero _) }), omega arith)
 
 same-length : tie.Need-same-length
 same-length c = search needs
@@ -45,9 +57,8 @@ same-length c = search needs
 returns-4 : tie.Need-returns-4
 unfolding saidBytes
 returns-4 c =
-    let a = c .before .before .before .before .before .before .before .before .before .before .args in
     let call = c .before .before .put-value in
-    (put-written 20 (omega arith) (subst (Written (a .output .now) (call .last .1 .1 .0) (a .at) (call .result)) (ap saidBytes (sym (c .before .before .before .before .before .said .given .1))) (call .ensures .0)), call .ensures .1)
+    (put-as (c .before .before .before .before .before .said .given .1) (omega arith) (call .ensures .0), call .ensures .1)
 
 same-length-2 : tie.Need-same-length-2
 same-length-2 c = search needs
@@ -55,9 +66,8 @@ same-length-2 c = search needs
 returns-5 : tie.Need-returns-5
 unfolding saidBytes
 returns-5 c =
-    let a = c .before .before .before .before .before .before .before .before .before .before .args in
     let call = c .before .before .put-refused in
-    (put-written 20 (omega arith) (subst (Written (a .output .now) (call .last .1 .0) (a .at) (call .result)) (ap saidBytes (sym (c .before .before .before .before .before .said2 .given .1))) (call .ensures .0)), call .ensures .1)
+    (put-as (c .before .before .before .before .before .said2 .given .1) (omega arith) (call .ensures .0), call .ensures .1)
 
 pub put-said-spec : {M : Type 1} → statement M
 put-said-spec =

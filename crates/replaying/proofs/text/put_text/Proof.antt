@@ -1,7 +1,6 @@
 -- `text::put_text` meets its contract. The loop's invariant: the first `i` bytes are stored.
 -- Assumes nothing.
 use mathlib.Core.Path.{_≡_, _∙_, refl, ap}
-use mathlib.Core.List.{List}
 use Prim.Native.Nat.{ℕ, _+_, _-_, _≤_}
 use native.Mathlib.Omega.{arith}
 use lib.ListN.{length, take}
@@ -9,9 +8,6 @@ use lib.Seq.{sets, length-sets, take-length}
 use Rattle.replaying.proofs.Print.{sets-more}
 use Rattle.replaying.proofs.text.put_text.Statement.{statement}
 use Rattle.replaying.proofs.text.put_text.Tie as tie
-
-kept-length : (out l : List ℕ) (at : ℕ) (xs : List ℕ) → out ≡ sets l at xs → length out ≡ length l
-kept-length out l at xs e = ap length e ∙ length-sets l at xs
 
 abbrev Inv-loop : tie.InvT-loop
 Inv-loop text output₀ at i₀ output i = (i ≤ length text) × (output ≡ sets output₀ at (take i text))
@@ -29,7 +25,10 @@ add-output : tie.Need-add-output Inv-loop μ-loop
 add-output c = omega arith
 
 slice-write-output : tie.Need-slice-write-output Inv-loop μ-loop
-slice-write-output c = omega (arith, kept-length (c .before .before .loop .output) (c .before .before .before .args .output .now) (c .before .before .before .args .at) (take (c .before .before .loop .i) (c .before .before .before .args .text .now)) (c .before .before .loop .inv .1))
+slice-write-output c =
+    let l = c .before .before .loop in
+    let kept : length (l .output) ≡ length (c .before .before .before .args .output .now) = ap length (l .inv .1) ∙ simp length-sets in
+    omega arith
 
 add-i : tie.Need-add-i Inv-loop μ-loop
 add-i c = omega arith
@@ -40,23 +39,22 @@ loop-less c = omega arith
 loop-again : tie.Need-loop-again Inv-loop μ-loop
 loop-again c =
     let l = c .before .before .loop in
-    let text = c .before .before .before .args .text .now in
-    (omega arith, sets-more (c .before .before .before .args .output .now) (l .output) (c .before .before .before .args .at) text (l .i) (c .before .loop-test .taken) (l .inv .1))
+    let a = c .before .before .before .args in
+    (omega arith, sets-more (a .output .now) (l .output) (a .at) (a .text .now) (l .i) (c .before .loop-test .taken) (l .inv .1))
 
 add-result : tie.Need-add-result Inv-loop μ-loop
 add-result c = omega arith
 
 same-length : tie.Need-same-length Inv-loop μ-loop
-same-length c = kept-length (c .before .loop .output) (c .before .before .args .output .now) (c .before .before .args .at) (take (c .before .loop .i) (c .before .before .args .text .now)) (c .before .loop .inv .1)
+same-length c = ap length (c .before .loop .inv .1) ∙ simp length-sets
 
 returns : tie.Need-returns Inv-loop μ-loop
 returns c =
-    let text = c .before .before .args .text .now in
-    let all : c .before .loop .i ≡ length text = omega arith in
-    record {
-      bytes = c .before .loop .inv .1 ∙ ap (λ (k : ℕ). sets (c .before .before .args .output .now) (c .before .before .args .at) (take k text)) all ∙ ap (sets (c .before .before .args .output .now) (c .before .before .args .at)) (take-length text);
-      place = ap (λ (k : ℕ). c .before .before .args .at + k) all;
-    }
+    let l = c .before .loop in
+    let a = c .before .before .args in
+    let all : l .i ≡ length (a .text .now) = omega arith in
+    let whole : take (l .i) (a .text .now) ≡ a .text .now = ap (λ (k : ℕ). take k (a .text .now)) all ∙ take-length (a .text .now) in
+    record { bytes = l .inv .1 ∙ ap (sets (a .output .now) (a .at)) whole; place = ap (λ (k : ℕ). a .at + k) all }
 
 pub put-text-spec : {M : Type 1} → statement M
 put-text-spec =

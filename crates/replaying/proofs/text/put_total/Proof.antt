@@ -10,7 +10,10 @@ put-text-requires : tie.Need-put-text-requires
 put-text-requires c κs = search needs
 
 put-digits-requires : tie.Need-put-digits-requires
-put-digits-requires c κs = omega (arith, digits-wide (c .before .before .before .before .before .before .before .args .v) (omega arith), c .before .before .before .put-text .ensures .place, written-length (c .before .before .before .put-text .ensures))
+put-digits-requires c κs =
+    let d = c .before .before .before in
+    let number = d .before .before .before .before .args .v in
+    omega (arith, digits-wide number (omega arith), d .put-text .ensures .place, written-length (d .put-text .ensures))
 
 same-length : tie.Need-same-length
 same-length c = search needs

@@ -1,15 +1,15 @@
--- `desk::Desk::taken` is safe and ends. Assumes nothing.
+-- `reader::Reader::taken` is safe and ends. Assumes nothing.
 use Prim.Native.Nat.{_-_}
 use native.Mathlib.Omega.{arith}
 use lib.ListN.{length}
-use Rattle.probe.proofs.desk.Desk.taken.Statement.{statement}
-use Rattle.probe.proofs.desk.Desk.taken.Tie as tie
+use Rattle.probe.proofs.reader.Reader.taken.Statement.{statement}
+use Rattle.probe.proofs.reader.Reader.taken.Tie as tie
 
 abbrev Inv-loop : tie.InvT-loop
-Inv-loop block desk₀ from₀ desk from = Unit {0}
+Inv-loop block reader₀ from₀ reader from = Unit {0}
 
 abbrev μ-loop : tie.MeasureT-loop
-μ-loop block desk₀ from₀ desk from = length block - from
+μ-loop block reader₀ from₀ reader from = length block - from
 
 loop-holds : tie.Need-loop-holds Inv-loop μ-loop
 loop-holds c = tt

@@ -1,4 +1,4 @@
-// The desk: the state at hand, the line that is being read, and what waits to be written. Bytes come in, lines are obeyed.
+// The reader: the state at hand, the line that is being read, and what waits to be written. Bytes come in, lines are obeyed.
 use crate::look::look;
 use crate::obey::obey;
 use crate::out::Out;
@@ -8,26 +8,26 @@ use crate::words::next_of;
 use crate::words::same;
 use model::State;
 
-pub(crate) struct Desk {
+pub(crate) struct Reader {
     state: State,
     line: Text,
     out: Out,
 }
 
-impl Desk {
+impl Reader {
     // The state of a make that is refused is zero throughout.
-    pub(crate) fn new() -> Desk {
+    pub(crate) fn new() -> Reader {
         let made = plic::make(0, 0, 0, b"");
         let state = made.state;
-        Desk {
+        Reader {
             state: state,
             line: Text::empty(),
             out: Out::new(),
         }
     }
 
-    // A part of a line is read. Of a line that is too long 256 bytes are kept, which says that it is.
-    fn read(self, part: &[u8]) -> Desk {
+    // A part of a line is read. Of a line that is too long one byte too many is kept, which says that it is.
+    fn read(self, part: &[u8]) -> Reader {
         let mut next = self;
         let line = self.line;
         let longer = line.with(part);
@@ -36,22 +36,22 @@ impl Desk {
     }
 
     // The line is whole: it is obeyed, and the next one begins.
-    fn obeyed(self) -> Desk {
+    fn obeyed(self) -> Reader {
         let state = self.state;
         let out = self.out;
         let bytes = self.line.bytes;
         let line = first(&bytes, self.line.length);
         if same(line, b"V") {
-            return Desk {
+            return Reader {
                 state: state,
                 line: Text::empty(),
                 out: look(state, out),
             };
         }
-        let told = obey(state, line);
-        let text = told.text;
-        let next = told.state;
-        Desk {
+        let reply = obey(state, line);
+        let text = reply.text;
+        let next = reply.state;
+        Reader {
             state: next,
             line: Text::empty(),
             out: out.line(text),
@@ -59,18 +59,18 @@ impl Desk {
     }
 
     // A block of the input is read: each line feed in it ends a line.
-    pub(crate) fn taken(self, block: &[u8]) -> Desk {
-        let mut desk = self;
+    pub(crate) fn taken(self, block: &[u8]) -> Reader {
+        let mut reader = self;
         let mut from = 0;
         while from < block.len() {
             let end = next_of(block, from, b'\n');
-            desk = desk.read(&block[from..end]);
+            reader = reader.read(&block[from..end]);
             if end < block.len() {
-                desk = desk.obeyed();
+                reader = reader.obeyed();
             }
             from = end + 1;
         }
-        desk
+        reader
     }
 
     // The input has ended: a last line may lack its line feed.

@@ -1,4 +1,4 @@
-// What a call answered, and what is printed of it.
+// The reply to a line: what a call answered, and what is printed of it.
 use crate::text::Text;
 use model::Answer;
 use model::Answered;
@@ -8,20 +8,20 @@ use model::State;
 use model::Totals;
 
 // What is printed, and the state at hand afterwards.
-pub(crate) struct Told {
+pub(crate) struct Reply {
     pub(crate) text: Text,
     pub(crate) state: State,
 }
 
-pub(crate) fn silent(state: State) -> Told {
-    Told {
+pub(crate) fn silent(state: State) -> Reply {
+    Reply {
         text: Text::empty(),
         state: state,
     }
 }
 
-fn refused(state: State, why: Refusal) -> Told {
-    Told {
+fn refused(state: State, why: Refusal) -> Reply {
+    Reply {
         text: Text::of(b"refused ")
             .number(plic::number_of(why) as u64)
             .with(b"\n"),
@@ -29,12 +29,12 @@ fn refused(state: State, why: Refusal) -> Told {
     }
 }
 
-pub(crate) fn unreadable(state: State) -> Told {
+pub(crate) fn unreadable(state: State) -> Reply {
     refused(state, Refusal::Unreadable)
 }
 
 // What a call answered: its value after the label, and nothing where there is no label.
-pub(crate) fn answer(label: &[u8], got: Answered) -> Told {
+pub(crate) fn answer(label: &[u8], got: Answered) -> Reply {
     let given = got.answer;
     let state = got.state;
     match given {
@@ -43,7 +43,7 @@ pub(crate) fn answer(label: &[u8], got: Answered) -> Told {
             if label.len() == 0 {
                 return silent(state);
             }
-            Told {
+            Reply {
                 text: Text::of(label).number(v as u64).with(b"\n"),
                 state: state,
             }
@@ -51,13 +51,13 @@ pub(crate) fn answer(label: &[u8], got: Answered) -> Told {
     }
 }
 
-pub(crate) fn mean(state: State) -> Told {
+pub(crate) fn mean(state: State) -> Reply {
     let got = plic::mean(state);
     let given = got.mean;
     let next = got.state;
     match given {
         Mean::Refused(why) => refused(next, why),
-        Mean::Of(ticks, claims) => Told {
+        Mean::Of(ticks, claims) => Reply {
             text: Text::of(b"M ")
                 .number(ticks)
                 .with(b" ")
@@ -68,7 +68,7 @@ pub(crate) fn mean(state: State) -> Told {
     }
 }
 
-pub(crate) fn totals(state: State) -> Told {
+pub(crate) fn totals(state: State) -> Reply {
     let got = plic::totals(state);
     let given = got.totals;
     let next = got.state;
@@ -79,7 +79,7 @@ pub(crate) fn totals(state: State) -> Told {
                 .number(clock as u64)
                 .with(b" claims ")
                 .number(claims as u64);
-            Told {
+            Reply {
                 text: counted
                     .with(b" waited ")
                     .number(waited)
@@ -92,8 +92,8 @@ pub(crate) fn totals(state: State) -> Told {
     }
 }
 
-pub(crate) fn is_sound(state: State) -> Told {
-    Told {
+pub(crate) fn is_sound(state: State) -> Reply {
+    Reply {
         text: Text::of(b"S ")
             .number(plic::is_sound(state) as u64)
             .with(b"\n"),
