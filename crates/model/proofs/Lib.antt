@@ -5,6 +5,7 @@ pub mod Waits
 pub mod Registers
 pub mod Board
 pub mod Life
+pub mod Plain
 pub mod Change
 pub mod Steps
 pub mod Calls
