@@ -1,11 +1,14 @@
+pub mod Answers
+pub mod Plain
 pub mod Account
+pub mod Rows
+pub mod Booking
 pub mod Sound
 pub mod Claim
 pub mod Waits
 pub mod Registers
 pub mod Board
 pub mod Life
-pub mod Plain
 pub mod Change
 pub mod Steps
 pub mod Calls

@@ -3,27 +3,32 @@
 use mathlib.Core.Path.{_≡_, _∙_, refl, sym, ap, subst}
 use mathlib.Core.Bool.{Bool, true, false, not, cond, _&&_, So}
 use mathlib.Core.Logic.{_⊎_, inl, inr, ⊎-elim, _≢_, _↔_}
-use Prim.Native.Nat.{ℕ, _+_, _-_, _≤_, _<_}
+use Prim.Native.Nat.{ℕ, _+_, _-_, _<_}
 use native.Mathlib.Omega.{arith}
 use lib.Dec.{ltb, eqb}
-use lib.Seq.{getD-set-same}
 use borrow.Author.Tests.{ltb-true, ltb-false, lt-ltb, le-ltb, eqb-true, eqb-false, eq-eqb, ne-eqb}
-use Rattle.limits.specs.Limits.{sourceRoom, bucketRoom, mostEdges}
-use Rattle.laws.proofs.Truth.{dichotomy, not-so, so-not, and-intro, and-left, and-right, and-fails-left, and-fails-right, cond-so, cond-not, cond-elim}
-use Rattle.laws.proofs.Fold.{same-or-other}
+use Rattle.limits.specs.Limits.{sourceRoom, mostEdges}
+use Rattle.laws.proofs.Truth.{dichotomy, not-so, so-not, and-intro, and-left, and-right, and-fails-right, cond-so, cond-not, cond-elim}
+use Rattle.laws.specs.Fold.{allOf}
+use Rattle.laws.proofs.Fold.{test-at}
 use Rattle.model.specs.declared.State.{State}
 use Rattle.model.specs.declared.Request.{Request}
 use Rattle.model.specs.declared.Register.the-variants.{Claim}
-use Rattle.model.specs.Board.{request, isSource, kindOf, withRequest, withCounts}
-use Rattle.model.specs.Waits.{isIdle, isPending, isInService, wait, bucketOf, counted, booked, sourceClaims, sourceWaited, bucketClaims, bucketTicks}
-use Rattle.model.specs.Life.{lineAt, raised, edgeCounted, levelChanged, edgeChanged, lineChanged, lineChange, winner, served, claimOf, claimBy, takesEffect, TakesEffect, idled, edgeTaken, completed, completeBy}
-use Rattle.model.specs.Registers.{readOf, afterRead, afterWrite}
+use Rattle.model.specs.Board.{request, isSource, kindOf, withRequest}
+use Rattle.model.specs.Waits.{isIdle, isPending, isInService}
+use Rattle.model.specs.Life.{lineAt, raised, edgeCounted, levelChanged, edgeChanged, lineChanged, lineChange, takesEffect, TakesEffect, idled, edgeTaken, completed, completeBy}
+use Rattle.model.specs.Registers.{afterWrite}
 use Rattle.model.specs.Sound.{Sound}
 use Rattle.model.proofs.Board.{request-same, request-other}
-use Rattle.model.proofs.Claim.{source-range, winner-is}
-use Rattle.model.proofs.Waits.{bucket-holds}
-use Rattle.model.proofs.Tallies.{counted-same}
-use Rattle.model.proofs.Life.{takes-effect-iff}
+use Rattle.model.proofs.Claim.{source-range}
+
+-- "It takes effect exactly if v is in 1..N, enabled in c now, and in service."
+pub takes-effect-iff : (s : State) (c v : ℕ) → So (takesEffect s c v) ↔ TakesEffect s c v
+unfolding takesEffect
+takes-effect-iff s c v = (
+  (λ t. record { source = test-at _ t 0; enable = test-at _ t 1; service = test-at _ t 2 }),
+  (λ f. unfold allOf in and-intro (f .source) (and-intro (f .enable) (and-intro (f .service) refl))),
+)
 
 -- a request of which the line alone may differ
 pub record Left (before after : Request) : Type 0 where
@@ -37,7 +42,7 @@ pub record PendingFrom (clock : ℕ) (r : Request) : Type 0 where
   pub start : r .start ≡ clock
 
 module _ (s : State) (sound : Sound s) (i : ℕ) (source : So (isSource (s .shape .sources) i)) where
-  here : i < sourceRoom
+  pub here : i < sourceRoom
   here = omega (arith, source-range (s .shape .sources) i source .1, sound .limits .sources .1)
 
   -- source i now, and after a change of its line
@@ -113,52 +118,6 @@ module _ (s : State) (sound : Sound s) (i : ℕ) (source : So (isSource (s .shap
   pub line-others : (v : Bool) (j : ℕ) → j ≢ i → request (lineChange s i v .requests) j ≡ request (s .requests) j
   unfolding lineChange withRequest
   line-others v j ne = request-other (s .requests) i _ j ne
-
--- a claim of source i, booked: it is in service, and its wait stands with the source and with the bucket
-pub record Booked (s t : State) (i w : ℕ) : Type 0 where
-  pub service : So (isInService (request (t .requests) i))
-  pub claims : sourceClaims (t .counts) i ≡ sourceClaims (s .counts) i + 1
-  pub waited : sourceWaited (t .counts) i ≡ sourceWaited (s .counts) i + w
-  pub bucketClaims : bucketClaims (t .buckets) (bucketOf w) ≡ bucketClaims (s .buckets) (bucketOf w) + 1
-  pub bucketTicks : bucketTicks (t .buckets) (bucketOf w) ≡ bucketTicks (s .buckets) (bucketOf w) + w
-
-module _ (s : State) (sound : Sound s) (c : ℕ) where
-  claim-booked : (i : ℕ) → So (isSource (s .shape .sources) i) → Booked s (claimOf s i) i (s .clock - request (s .requests) i .start)
-  unfolding claimOf withCounts withRequest wait
-  claim-booked i source = record {
-    service = subst (λ (r : Request). So (isInService r)) (sym (request-same (s .requests) i _ (sound .types .requests) room)) (unfold served isInService in refl);
-    claims = counts .0;
-    waited = counts .1;
-    bucketClaims = unfold booked bucketClaims in getD-set-same (s .buckets .claims) (bucketOf w) _ 0 (omega (arith, bucket, sound .types .bucketClaims));
-    bucketTicks = unfold booked bucketTicks in getD-set-same (s .buckets .ticks) (bucketOf w) _ 0 (omega (arith, bucket, sound .types .bucketTicks));
-  }
-    where
-      w : ℕ
-      w = s .clock - request (s .requests) i .start
-
-      room : i < sourceRoom
-      room = here s sound i source
-
-      bucket : bucketOf w < bucketRoom
-      bucket = omega (arith, bucket-holds w (omega (arith, sound .types .clock)) .exists)
-
-      counts : (sourceClaims (counted (s .counts) i w) i ≡ sourceClaims (s .counts) i + 1)
-          × (sourceWaited (counted (s .counts) i w) i ≡ sourceWaited (s .counts) i + w)
-      counts = counted-same (s .counts) i w (omega (arith, room, sound .types .claims)) (omega (arith, room, sound .types .waited))
-
-  -- "It goes into service and its wait is booked."
-  pub claim-books : readOf s (Claim c) ≢ 0 →
-      Booked s (afterRead s (Claim c)) (readOf s (Claim c)) (s .clock - request (s .requests) (readOf s (Claim c)) .start)
-  unfolding readOf afterRead claimBy
-  claim-books some =
-      subst (λ (t : State). Booked s t (winner s c) (s .clock - request (s .requests) (winner s c) .start))
-      (sym (cond-not _ _ (ne-eqb _ 0 some)))
-      (claim-booked (winner s c) (winner-is s c .some some .0 .source))
-
-  -- "None: 0, nothing booked."
-  pub claim-none : readOf s (Claim c) ≡ 0 → afterRead s (Claim c) ≡ s
-  unfolding readOf afterRead claimBy
-  claim-none none = cond-so _ _ (eq-eqb _ 0 none)
 
 -- "a level source with high line, or a counting source with extra edges"
 abbrev pub Again : ℕ → Request → Type 0
