@@ -17,3 +17,4 @@ pub mod Refusals
 pub mod Reports
 pub mod Tallies
 pub mod Runs
+pub mod Quick
