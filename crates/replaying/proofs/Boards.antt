@@ -226,5 +226,5 @@ last-line input s e =
     let r : Replay = lastIn (fedAll fresh input .begun) (fedAll fresh input) in (
       r .printed,
       ap (λ (q : Stand). r .printed ++ closing q) (end-stands input ∙ e)
-      ∙ ap (λ (t : List ℕ). r .printed ++ totalsLine t) (lines-reach (allLines input) s e .account .totals),
+          ∙ ap (λ (t : List ℕ). r .printed ++ totalsLine t) (lines-reach (allLines input) s e .account .totals),
     )
