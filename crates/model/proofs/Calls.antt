@@ -52,9 +52,11 @@ module _ (s : State) where
   after-sound (read off) e =
       read-step s (was-sound (read off) s e first) (had-room (read off) s e second) (decode (s .shape .sources) (s .shape .contexts) off)
   after-sound (write off v) e =
-      let sound-was = was-sound (write off v) s e first in
-      write-step s sound-was (had-room (write off v) s e second) off (decode (s .shape .sources) (s .shape .contexts) off) v
-      (λ ne. decode-iff (s .shape .sources) (s .shape .contexts) off (sound-was .limits .sources .1, sound-was .limits .contexts .1) (aligned off v e) (decode (s .shape .sources) (s .shape .contexts) off) ne .0 refl)
+      let was = was-sound (write off v) s e first in
+      let n : ℕ = s .shape .sources in
+      let m : ℕ = s .shape .contexts in
+      write-step s was (had-room (write off v) s e second) off (decode n m off) v
+      (λ ne. decode-iff n m off (was .limits .sources .1, was .limits .contexts .1) (aligned off v e) (decode n m off) ne .0 refl)
   after-sound (notification c) e = was-sound (notification c) s e first
   after-sound mean e = was-sound mean s e first
   after-sound (byClaim p) e = was-sound (byClaim p) s e first

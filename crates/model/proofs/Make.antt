@@ -2,7 +2,7 @@
 -- Assumes nothing.
 use mathlib.Core.Path.{_≡_, _∙_, refl, sym, ap, subst}
 use mathlib.Core.Bool.{Bool, false, not, cond, _&&_, So}
-use mathlib.Core.Logic.{_⊎_, inl, inr, ⊎-elim, _≢_, _↔_}
+use mathlib.Core.Logic.{_⊎_, ⊎-elim, ⊎-map, _≢_, _↔_}
 use mathlib.Core.List.{List, _++_}
 use Prim.Native.Nat.{ℕ, zero, suc, _+_, _-_, _*_, _≤_, _<_}
 use native.Mathlib.Omega.{arith}
@@ -13,7 +13,7 @@ use borrow.Author.Tests.{leb-true, leb-false, eqb-true, eqb-false, ltb-true, ltb
 use Rattle.limits.specs.Limits.{sourceRoom, lastSource, contextRoom, wordRoom, enableRoom, bucketRoom, mostBits}
 use Rattle.laws.specs.Fold.{allTo}
 use Rattle.laws.specs.Bits.{bit}
-use Rattle.laws.proofs.Truth.{dichotomy, not-so, so-not, and-intro, and-left, and-right}
+use Rattle.laws.proofs.Truth.{dichotomy, not-so, so-not, fails, and-intro, and-left, and-right}
 use Rattle.laws.proofs.Fold.{all-at, sum-zero}
 use Rattle.laws.proofs.Bits.{bit-above}
 use Rattle.model.specs.declared.Shape.{Shape}
@@ -24,7 +24,8 @@ use Rattle.model.specs.Waits.{isPending, isIdle, openAge, sourceClaims, 
 use Rattle.model.specs.Sound.{WithinLimits, SoundSource, SoundContext, Sound}
 use Rattle.model.specs.Calls.{badShape, make}
 use Rattle.model.proofs.Sound.{limits-facts, limits-test}
-use Rattle.model.proofs.Claim.{range-source}
+use Rattle.model.proofs.Claim.{source-range, range-source}
+use Rattle.model.proofs.Rows.{outside-iff}
 
 -- a request of which nothing has been heard
 zeroRequest : Request
@@ -197,12 +198,10 @@ pub data Misshapen (n c b : ℕ) (kinds : List ℕ) : Type 0 where
   kind : (i : ℕ) → i < length kinds → 2 < getD kinds i 0 → Misshapen n c b kinds
 
 in-or-out : (most x : ℕ) → ((1 ≤ x) × (x ≤ most)) ⊎ ((x ≡ 0) ⊎ (most < x))
-in-or-out most zero = inr (inl refl)
-in-or-out most (suc x) = ⊎-elim (λ (t : So (leb (suc x) most)). inl (omega arith, leb-true (suc x) most t))
-    (λ t. inr (inr (leb-false (suc x) most t))) (dichotomy (leb (suc x) most))
+in-or-out most x = ⊎-map (source-range most x) (λ t. outside-iff most x .0 (ap not t)) (dichotomy (isSource most x))
 
 not-out : (most x : ℕ) → (1 ≤ x) × (x ≤ most) → (x ≡ 0) ⊎ (most < x) → ⊥
-not-out most x h o = ⊎-elim (λ (e : x ≡ 0). omega (arith, e, h .0)) (λ k. omega (arith, k, h .1)) o
+not-out most x h o = not-so (fails _ (outside-iff most x .1 o)) (range-source most x (h .0) (h .1))
 
 -- a test that fails of all fails of one
 fails-at : (f : ℕ → Bool) (n : ℕ) → allTo f n ≡ false → (i : ℕ) × (i < n) × (f i ≡ false)

@@ -30,8 +30,8 @@ takes-effect-iff s c v = (
   (λ f. unfold allOf in and-intro (f .source) (and-intro (f .enable) (and-intro (f .service) refl))),
 )
 
--- a request of which the line alone may differ
-pub record Left (before after : Request) : Type 0 where
+-- a request whose line alone may have changed
+pub record SameButLine (before after : Request) : Type 0 where
   pub stage : after .stage ≡ before .stage
   pub extra : after .extra ≡ before .extra
   pub start : after .start ≡ before .start
@@ -60,9 +60,9 @@ module _ (s : State) (sound : Sound s) (i : ℕ) (source : So (isSource (s .shap
   unfolding raised isPending
   raised-from r = record { pending = refl; start = refl }
 
-  line-left : (v : Bool) → Left now (lineAt v now)
+  line-alone : (v : Bool) → SameButLine now (lineAt v now)
   unfolding lineAt
-  line-left v = record { stage = refl; extra = refl; start = refl }
+  line-alone v = record { stage = refl; extra = refl; start = refl }
 
   -- "Level. Idle with the line high becomes pending at once."
   pub level-high : kindOf (s .shape) i ≡ 0 → So (isIdle now) → PendingFrom (s .clock) (lined true)
@@ -72,12 +72,12 @@ module _ (s : State) (sound : Sound s) (i : ℕ) (source : So (isSource (s .shap
       (raised-from (lineAt true now))
 
   -- "Lowering the line never withdraws a request": whatever the kind, it changes the line alone
-  pub lowering-keeps : Left now (lined false)
+  pub lowering-keeps : SameButLine now (lined false)
   unfolding lineChanged levelChanged edgeChanged
-  lowering-keeps = subst (Left now) (sym (lined-is false))
-      (cond-elim (Left now) (eqb (kindOf (s .shape) i) 0)
-      (λ _. cond-elim (Left now) (isIdle now && false) (λ t. absurd (not-so (and-fails-right (isIdle now) refl) t)) (λ _. line-left false))
-      (λ _. cond-elim (Left now) (not (now .line) && false) (λ t. absurd (not-so (and-fails-right (not (now .line)) refl) t)) (λ _. line-left false)))
+  lowering-keeps = subst (SameButLine now) (sym (lined-is false))
+      (cond-elim (SameButLine now) (eqb (kindOf (s .shape) i) 0)
+      (λ _. cond-elim (SameButLine now) (isIdle now && false) (λ t. absurd (not-so (and-fails-right (isIdle now) refl) t)) (λ _. line-alone false))
+      (λ _. cond-elim (SameButLine now) (not (now .line) && false) (λ t. absurd (not-so (and-fails-right (not (now .line)) refl) t)) (λ _. line-alone false)))
 
   module _ (edge : kindOf (s .shape) i ≢ 0) where
     edge-is : (v : Bool) → lined v ≡ edgeChanged (kindOf (s .shape) i) (s .clock) v now
@@ -85,7 +85,8 @@ module _ (s : State) (sound : Sound s) (i : ℕ) (source : So (isSource (s .shap
     edge-is v = lined-is v ∙ cond-not _ _ (ne-eqb _ 0 edge)
 
     rise-is : now .line ≡ false →
-        lined true ≡ cond (isIdle now) (raised (s .clock) (lineAt true now)) (cond (eqb (kindOf (s .shape) i) 2) (edgeCounted (lineAt true now)) (lineAt true now))
+        lined true ≡ cond (isIdle now) (raised (s .clock) (lineAt true now))
+        (cond (eqb (kindOf (s .shape) i) 2) (edgeCounted (lineAt true now)) (lineAt true now))
     unfolding edgeChanged
     rise-is low = edge-is true ∙ cond-so _ _ (and-intro (ap not low) refl)
 
@@ -94,10 +95,10 @@ module _ (s : State) (sound : Sound s) (i : ℕ) (source : So (isSource (s .shap
     edge-rises low idle = subst (PendingFrom (s .clock)) (sym (rise-is low ∙ cond-so _ _ idle)) (raised-from (lineAt true now))
 
   -- "Otherwise kind 1 ignores it .."
-  pub edge-ignored : kindOf (s .shape) i ≡ 1 → now .line ≡ false → isIdle now ≡ false → Left now (lined true)
+  pub edge-ignored : kindOf (s .shape) i ≡ 1 → now .line ≡ false → isIdle now ≡ false → SameButLine now (lined true)
   edge-ignored one low busy =
       let not-two = ne-eqb (kindOf (s .shape) i) 2 (λ e. omega (arith, e, one)) in
-      subst (Left now) (sym (rise-is (λ e. omega (arith, e, one)) low ∙ cond-not _ _ busy ∙ cond-not _ _ not-two)) (line-left true)
+      subst (SameButLine now) (sym (rise-is (λ e. omega (arith, e, one)) low ∙ cond-not _ _ busy ∙ cond-not _ _ not-two)) (line-alone true)
 
   -- ".. and kind 2 adds one to its extra edges, staying at 255 once there."
   pub edge-counted : kindOf (s .shape) i ≡ 2 → now .line ≡ false → isIdle now ≡ false →
@@ -114,21 +115,42 @@ module _ (s : State) (sound : Sound s) (i : ℕ) (source : So (isSource (s .shap
       is : lined true ≡ edgeCounted (lineAt true now)
       is = rise-is (λ e. omega (arith, e, two)) low ∙ cond-not _ _ busy ∙ cond-so _ _ (eq-eqb _ 2 two)
 
-  -- and no other source is touched
-  pub line-others : (v : Bool) (j : ℕ) → j ≢ i → request (lineChange s i v .requests) j ≡ request (s .requests) j
-  unfolding lineChange withRequest
-  line-others v j ne = request-other (s .requests) i _ j ne
+  -- the line is then as it was set
+  pub line-is-set : (v : Bool) → lined v .line ≡ v
+  unfolding lineChanged levelChanged edgeChanged raised edgeCounted lineAt
+  line-is-set v = ap (λ (r : Request). r .line) (lined-is v) ∙
+      cond-elim At (eqb (kindOf (s .shape) i) 0)
+      (λ _. cond-elim At (isIdle now && v) (λ _. refl) (λ _. refl))
+      (λ _. cond-elim At (not (now .line) && v)
+      (λ _. cond-elim At (isIdle now) (λ _. refl) (λ _. cond-elim At (eqb (kindOf (s .shape) i) 2) (λ _. refl) (λ _. refl)))
+      (λ _. refl))
+    where
+      At : Request → Type 0
+      At r = r .line ≡ v
+
+-- and no other source is touched
+pub line-others : (s : State) (i : ℕ) (v : Bool) (j : ℕ) → j ≢ i → request (lineChange s i v .requests) j ≡ request (s .requests) j
+unfolding lineChange withRequest
+line-others s i v j ne = request-other (s .requests) i _ j ne
 
 -- "a level source with high line, or a counting source with extra edges"
 abbrev pub Again : ℕ → Request → Type 0
 Again kind r = ((kind ≡ 0) × So (r .line)) ⊎ ((kind ≡ 2) × (0 < r .extra))
 
-module _ (s : State) (sound : Sound s) (c v : ℕ) where
-  -- "Otherwise it is silently ignored, also while v is still pending"
-  pub completion-ignored : (TakesEffect s c v → ⊥) → afterWrite s (Claim c) v ≡ s
-  unfolding afterWrite completeBy
-  completion-ignored not = cond-not _ _ (so-not (takesEffect s c v) (λ t. not (takes-effect-iff s c v .0 t)))
+-- "Otherwise it is silently ignored, also while v is still pending"
+pub completion-ignored : (s : State) (c v : ℕ) → (TakesEffect s c v → ⊥) → afterWrite s (Claim c) v ≡ s
+unfolding afterWrite completeBy
+completion-ignored s c v not = cond-not _ _ (so-not (takesEffect s c v) (λ t. not (takes-effect-iff s c v .0 t)))
 
+-- taking effect, it touches no other source
+pub completion-others : (s : State) (c v : ℕ) → TakesEffect s c v → (j : ℕ) → j ≢ v →
+    request (afterWrite s (Claim c) v .requests) j ≡ request (s .requests) j
+unfolding afterWrite completeBy
+completion-others s c v takes j ne =
+    ap (λ (t : State). request (t .requests) j) (cond-so _ _ (takes-effect-iff s c v .1 takes))
+    ∙ (unfold withRequest in request-other (s .requests) v _ j ne)
+
+module _ (s : State) (sound : Sound s) (c v : ℕ) where
   module _ (takes : TakesEffect s c v) where
     abbrev was : Request
     was = request (s .requests) v
@@ -183,13 +205,6 @@ module _ (s : State) (sound : Sound s) (c v : ℕ) where
         none more = ⊎-elim (λ (t : So (ltb 0 (was .extra))). absurd (not-so more (and-intro (eq-eqb _ 2 two) t)))
             (λ t. omega (arith, ltb-false 0 (was .extra) t)) (dichotomy (ltb 0 (was .extra)))
 
-  -- and no other source is touched
-  pub completion-others : TakesEffect s c v → (j : ℕ) → j ≢ v → request (afterWrite s (Claim c) v .requests) j ≡ request (s .requests) j
-  unfolding afterWrite completeBy
-  completion-others takes j ne =
-      ap (λ (t : State). request (t .requests) j) (cond-so _ _ (takes-effect-iff s c v .1 takes))
-      ∙ (unfold withRequest in request-other (s .requests) v _ j ne)
-
   -- "Completion by c with value v (all 32 bits)": a source in service leaves it exactly if v, uncut, is its ID and it takes effect
   pub completion-written : (i : ℕ) → So (isInService (request (s .requests) i)) →
       (isInService (request (afterWrite s (Claim c) v .requests) i) ≡ false) ↔ ((v ≡ i) × TakesEffect s c v)
@@ -197,8 +212,8 @@ module _ (s : State) (sound : Sound s) (c v : ℕ) where
     (λ out. ⊎-elim
         (λ (t : So (takesEffect s c v)).
         let takes = takes-effect-iff s c v .0 t in
-        (⊎-elim (λ (e : So (eqb v i)). eqb-true v i e) (λ e. absurd (stays out (completion-others takes i (λ k. eqb-false v i e (sym k))))) (dichotomy (eqb v i)), takes))
-        (λ t. absurd (stays out (ap (λ (k : State). request (k .requests) i) (completion-ignored (λ f. not-so t (takes-effect-iff s c v .1 f))))))
+        (⊎-elim (λ (e : So (eqb v i)). eqb-true v i e) (λ e. absurd (stays out (completion-others s c v takes i (λ k. eqb-false v i e (sym k))))) (dichotomy (eqb v i)), takes))
+        (λ t. absurd (stays out (ap (λ (k : State). request (k .requests) i) (completion-ignored s c v (λ f. not-so t (takes-effect-iff s c v .1 f))))))
         (dichotomy (takesEffect s c v))),
     (λ f. subst (λ (k : ℕ). isInService (request (afterWrite s (Claim c) v .requests) k) ≡ false) (f .0)
         (done-by (f .1) (λ r. isInService r ≡ false) (λ _. unfold raised isInService in refl) (λ _. unfold raised isInService in refl)

@@ -31,7 +31,7 @@ hit-iff n g gs r = (
 )
 
 -- a number outside 1..n
-outside-iff : (n i : ℕ) → So (not (isSource n i)) ↔ ((i ≡ 0) ⊎ (n < i))
+pub outside-iff : (n i : ℕ) → So (not (isSource n i)) ↔ ((i ≡ 0) ⊎ (n < i))
 outside-iff n i = (
   (λ t. ⊎-elim (λ (z : So (eqb i 0)). inl (eqb-true i 0 z))
       (λ z. ⊎-elim (λ (h : So (ltb n i)). inr (ltb-true n i h))
