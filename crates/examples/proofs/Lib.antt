@@ -1,2 +1,3 @@
+pub mod Quickly
 pub mod Examples
 pub mod Accounted

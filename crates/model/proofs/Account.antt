@@ -4,18 +4,18 @@
 -- Assumes nothing.
 use mathlib.Core.Path.{_≡_, _∙_, refl, sym, ap, ap₂, subst, subst₂}
 use mathlib.Core.Bool.{Bool, true, false, not, cond, _&&_, So}
-use mathlib.Core.Logic.{_⊎_, ⊎-elim, _≢_}
+use mathlib.Core.Logic.{⊎-elim, _≢_}
 use mathlib.Core.List.{List, [], _∷_, _++_}
 use Prim.Native.Nat.{ℕ, _+_, _-_, _*_, _≤_, _<_}
 use native.Mathlib.Omega.{arith}
 use lib.Dec.{ltb, eqb}
-use lib.ListN.{length, getD, replicate}
+use lib.ListN.{length, getD}
 use lib.Seq.{getD-set-same, getD-set-other}
 use borrow.Author.Tests.{eqb-true, eqb-false, eq-eqb, ne-eqb}
 use Rattle.limits.specs.Limits.{sourceRoom, bucketRoom}
 use Rattle.laws.specs.Fold.{sumTo}
 use Rattle.laws.proofs.Truth.{dichotomy, not-so, so-not, and-left, cond-so, cond-not, cond-elim}
-use Rattle.laws.proofs.Fold.{test-at, same-or-other, sum-ext, sum-add, sum-scale}
+use Rattle.laws.proofs.Fold.{same-or-other, sum-ext, sum-add, sum-scale}
 use Rattle.model.specs.declared.State.{State}
 use Rattle.model.specs.declared.Request.{Request}
 use Rattle.model.specs.declared.Requests.{Requests}
@@ -28,12 +28,14 @@ use Rattle.model.specs.Waits.{isIdle, isPending, isInService, wait, open
 use Rattle.model.specs.Life.{lineAt, raised, edgeCounted, levelChanged, edgeChanged, lineChanged, lineChange, advanced, winner, served, claimOf, claimBy, takesEffect, idled, edgeTaken, completed, completeBy}
 use Rattle.model.specs.Registers.{decode, readOf, afterRead, afterWrite, withPriority, withEnable, withThreshold}
 use Rattle.model.specs.Sound.{Roomy, Sound}
-use Rattle.model.specs.Calls.{Call, line, advance, read, write, notification, mean, byClaim, byTime, totals, isStep, grounds, valuesOf, effect, after, respond}
-use Rattle.model.specs.Refusals.{firstOf}
+use Rattle.model.specs.Calls.{Call, line, advance, read, write, notification, mean, byClaim, byTime, totals, isStep, valuesOf, effect, after, respond}
+use Rattle.model.specs.Refusals.{Outcome}
 use Rattle.model.specs.Run.{bitOf, bitsSet, Event, claimed, finished, Past, swept, atClaim, claimEvent, completionEvent, happened, rises, grown, noted, claimsIn, ticksIn, every, ofSource, ofBucket, lastIsClaim, Separate, agesOpen, Accounted}
 use Rattle.model.proofs.Board.{request-same, request-other, request-sum}
 use Rattle.model.proofs.Claim.{source-range, winner-is}
 use Rattle.model.proofs.Waits.{bucket-holds}
+use Rattle.model.proofs.Answers.{refused-gives, accepted-as}
+use Rattle.model.proofs.Plain.{takes-effect-iff}
 use Rattle.model.proofs.Tallies.{counted-same, counted-other, counted-sums}
 
 -- a request is in one stage
@@ -273,7 +275,7 @@ module _ (s : State) (p : Past) (f : Logged s p) where
         k = completed (kindOf (s .shape) v) (s .clock) (request (s .requests) v)
 
         in-service : So (takesEffect s c v) → So (isInService (request (s .requests) v))
-        in-service = unfold takesEffect in λ t. test-at _ t 2
+        in-service t = takes-effect-iff s c v .0 t .service
 
         ended : lastIsClaim v (finished v ∷ p .events) ≡ false
         ended = unfold lastIsClaim in cond-so _ _ (eq-eqb v v refl)
@@ -474,10 +476,10 @@ module _ (s : State) (p : Past) (f : Logged s p) where
     accepted-logged : (a : Call) →
         Logged (after a s) (grown p s (after a s) (swept a s) (happened a s (getD (valuesOf a s) 0 0) (p .since)))
     unfolding after isStep effect swept happened valuesOf
-    accepted-logged (line i v) = line-logged sound (s .steps + 1) i v
-    accepted-logged (advance n) = advance-logged sound (s .steps + 1) n
-    accepted-logged (read off) = read-logged sound (s .steps + 1) (decode (s .shape .sources) (s .shape .contexts) off)
-    accepted-logged (write off v) = write-logged sound (s .steps + 1) (decode (s .shape .sources) (s .shape .contexts) off) v
+    accepted-logged (line i v) = line-logged sound _ i v
+    accepted-logged (advance n) = advance-logged sound _ n
+    accepted-logged (read off) = read-logged sound _ (decode (s .shape .sources) (s .shape .contexts) off)
+    accepted-logged (write off v) = write-logged sound _ (decode (s .shape .sources) (s .shape .contexts) off) v
     accepted-logged (notification c) = unmoved
     accepted-logged mean = unmoved
     accepted-logged (byClaim q) = unmoved
@@ -485,13 +487,15 @@ module _ (s : State) (p : Past) (f : Logged s p) where
     accepted-logged totals = unmoved
 
     pub respond-logged : (a : Call) → Logged (respond a s .state) (noted p a s (respond a s))
-    unfolding respond noted
-    respond-logged a = by-cases (eqb (firstOf (grounds a s)) 0)
+    unfolding noted
+    respond-logged a = ⊎-elim
+        (λ (t : So (eqb (respond a s .number) 0)).
+        subst (λ (o : Outcome). Logged (o .state) (noted p a s o)) (sym (accepted-as a s (unfold respond in eqb-true _ 0 t))) (accepted-logged a))
+        (λ t. refused (eqb (respond a s .number) 0) t (respond a s .state) (refused-gives a s (eqb-false _ 0 t) .1) _ _)
+        (dichotomy (eqb (respond a s .number) 0))
       where
-        by-cases : (b : Bool) → Logged (cond b (after a s) s) (grown p s (cond b (after a s) s) (cond b (swept a s) 0)
-            (cond b (happened a s (getD (cond b (valuesOf a s) (replicate (length (valuesOf a s)) 0)) 0 0) (p .since)) []))
-        by-cases true = accepted-logged a
-        by-cases false = unmoved
+        refused : (b : Bool) → b ≡ false → (k : State) → k ≡ s → (n : ℕ) (es : List Event) → Logged k (grown p s k (cond b n 0) (cond b es []))
+        refused b e k is n es = subst₂ (λ (b : Bool) (k : State). Logged k (grown p s k (cond b n 0) (cond b es []))) (sym e) (sym is) unmoved
 
   -- the stored ages are those that the run tells
   told-ages : boardOpen (s .clock) (s .requests) ≡ agesOpen s p

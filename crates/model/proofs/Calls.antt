@@ -1,95 +1,23 @@
--- The calls as a whole: which number is given, what a refused call gives, that an accepted one leaves a sound state, and what a
--- step counts.
+-- "Every state that an accepted call returns is sound." The laws on what a call answers are passed on from Answers.
 -- Assumes nothing.
-use mathlib.Core.Path.{_≡_, _∙_, refl, sym, ap, subst}
-use mathlib.Core.Bool.{false, So}
-use mathlib.Core.Logic.{_⊎_, ⊎-elim, _≢_}
-use mathlib.Core.List.{List, [], _∷_, List·Memᴰ, List·Memᴰ·head, List·Memᴰ·tail, List·Memᴰ·not-nil, List·Memᴰ·cases-cons}
-use Prim.Native.Nat.{ℕ, _+_, _-_, _%_, _<_}
-use native.Mathlib.Omega.{arith}
-use lib.Dec.{eqb, eqb·suc-zero, lit<}
-use lib.ListN.{length, replicate}
-use borrow.Author.Tests.{ltb-false, leb-false, eqb-true, eqb-false, eq-eqb, ne-eqb, not-false}
-use Rattle.laws.proofs.Truth.{dichotomy, not-so, so-not, cond-so, cond-not, cond-elim}
+use mathlib.Core.Path.{_≡_, refl, sym, subst}
+use mathlib.Core.Bool.{So}
+use mathlib.Core.Logic.{⊎-elim}
+use mathlib.Core.List.{List, _∷_, List·Memᴰ, List·Memᴰ·head, List·Memᴰ·tail}
+use Prim.Native.Nat.{ℕ, _+_, _%_, _<_}
+use lib.Dec.{eqb}
+use borrow.Author.Tests.{ltb-false, leb-false, eqb-true, eqb-false, not-false}
+use Rattle.laws.proofs.Truth.{dichotomy}
 use Rattle.model.specs.declared.State.{State}
-use Rattle.model.specs.declared.Refusal.{Refusal}
-use Rattle.model.specs.Board.{withSteps}
-use Rattle.model.specs.Refusals.{numberOf, Ground, firstOf, Smallest}
-use Rattle.model.proofs.Refusals.{number-back}
+use Rattle.model.specs.Refusals.{Ground}
 use Rattle.model.specs.Registers.{decode}
 use Rattle.model.specs.Sound.{Sound}
-use Rattle.model.specs.Calls.{Call, line, advance, read, write, notification, mean, byClaim, byTime, totals, isStep, notSound, noStepLeft, offsetAbove, offsetUnaligned, noSuchSource, noSuchContext, clockPast, perMilleOutside, nothingToDivide, grounds, valuesOf, effect, after, respond}
+use Rattle.model.specs.Calls.{Call, line, advance, read, write, notification, mean, byClaim, byTime, totals, isStep, notSound, noStepLeft, offsetUnaligned, noSuchSource, clockPast, grounds, effect, after, respond}
 use Rattle.model.proofs.Sound.{sound-facts}
 use Rattle.model.proofs.Registers.{decode-iff}
 use Rattle.model.proofs.Steps.{line-step, advance-step, read-step, write-step}
-
--- numbers that rise, from above n on
-abbrev Rising : ℕ → List Ground → Type 0
-Rising n [] = Unit {0}
-Rising n (g ∷ gs) = (n < g .number) × Rising (g .number) gs
-
-rising-above : (n : ℕ) (gs : List Ground) → Rising n gs → (g : Ground) → List·Memᴰ g gs → n < g .number
-rising-above n [] r g m = absurd (List·Memᴰ·not-nil m)
-rising-above n (x ∷ gs) r g m = ⊎-elim
-    (λ (e : g ≡ x). subst (λ (k : Ground). n < k .number) (sym e) (r .0))
-    (λ k. omega (arith, r .0, rising-above (x .number) gs (r .1) g k))
-    (List·Memᴰ·cases-cons m)
-
-smallest-of : (n : ℕ) (gs : List Ground) → Rising n gs → Smallest gs (firstOf gs)
-unfolding firstOf
-smallest-of n [] r = record { refused = λ ne. absurd (ne refl); least = λ m c. absurd (List·Memᴰ·not-nil (c .1)) }
-smallest-of n (g ∷ gs) r =
-    let ih = smallest-of (g .number) gs (r .1) in
-    cond-elim (Smallest (g ∷ gs)) (g .holds)
-    (λ t. record {
-      refused = λ _. (g, List·Memᴰ·head refl, t, refl);
-      least = λ m c. (
-        λ e. omega (arith, e, r .0),
-        ⊎-elim
-            (λ (e : c .0 ≡ g). omega (arith, c .3, ap (λ (k : Ground). k .number) e))
-            (λ k. omega (arith, c .3, rising-above (g .number) gs (r .1) (c .0) k))
-            (List·Memᴰ·cases-cons (c .1)),
-      );
-    })
-    (λ t. record {
-      refused = λ ne. let c = ih .refused ne in (c .0, List·Memᴰ·tail (c .1), c .2, c .3);
-      least = λ m c. ⊎-elim
-          (λ (e : c .0 ≡ g). absurd (not-so t (subst (λ (k : Ground). So (k .holds)) e (c .2))))
-          (λ k. ih .least m (c .0, k, c .2, c .3))
-          (List·Memᴰ·cases-cons (c .1));
-    })
-
--- the numbers of each call rise, so the first that holds is the smallest
-rising : (a : Call) (s : State) → Rising 0 (grounds a s)
-unfolding grounds notSound noStepLeft offsetAbove offsetUnaligned noSuchSource noSuchContext clockPast perMilleOutside nothingToDivide
-rising (line i v) s = (lit< tt, (lit< tt, (lit< tt, tt)))
-rising (advance n) s = (lit< tt, (lit< tt, (lit< tt, tt)))
-rising (read off) s = (lit< tt, (lit< tt, (lit< tt, (lit< tt, tt))))
-rising (write off v) s = (lit< tt, (lit< tt, (lit< tt, (lit< tt, tt))))
-rising (notification c) s = (lit< tt, (lit< tt, tt))
-rising mean s = (lit< tt, (lit< tt, tt))
-rising (byClaim p) s = (lit< tt, (lit< tt, (lit< tt, tt)))
-rising (byTime p) s = (lit< tt, (lit< tt, (lit< tt, tt)))
-rising totals s = (lit< tt, tt)
-
--- the number given is the smallest of those that concern the call, and 0 exactly if none does
-pub number-smallest : (a : Call) (s : State) → Smallest (grounds a s) (respond a s .number)
-unfolding respond
-number-smallest a s = smallest-of 0 (grounds a s) (rising a s)
-
--- "A refusal gives value zero and the state exactly as handed in"
-pub refused-gives : (a : Call) (s : State) → respond a s .number ≢ 0 →
-    (respond a s .values ≡ replicate (length (valuesOf a s)) 0) × (respond a s .state ≡ s)
-unfolding respond
-refused-gives a s ne = (cond-not _ _ (ne-eqb _ 0 ne), cond-not _ _ (ne-eqb _ 0 ne))
-
-accepted-gives : (a : Call) (s : State) → respond a s .number ≡ 0 → respond a s .state ≡ after a s
-unfolding respond
-accepted-gives a s e = cond-so _ _ (eq-eqb _ 0 e)
-
--- of an accepted call no refusal's case holds
-none-holds : (a : Call) (s : State) → respond a s .number ≡ 0 → (g : Ground) → List·Memᴰ g (grounds a s) → g .holds ≡ false
-none-holds a s e g m = so-not (g .holds) (λ t. number-smallest a s .least (g .number) (g, m, t, refl) .0 e)
+use Rattle.model.proofs.Answers.{accepted-gives, none-holds}
+pub use Rattle.model.proofs.Answers.{number-smallest, refused-gives, step-counts, others-leave, first-hit, first-miss, clear, refused-as, accepted-as}
 
 module _ (a : Call) (s : State) (accepted : respond a s .number ≡ 0) where
   pub was-sound : List·Memᴰ (notSound s) (grounds a s) → Sound s
@@ -124,26 +52,16 @@ module _ (s : State) where
   after-sound (read off) e =
       read-step s (was-sound (read off) s e first) (had-room (read off) s e second) (decode (s .shape .sources) (s .shape .contexts) off)
   after-sound (write off v) e =
-      let sound-was = was-sound (write off v) s e first in
-      write-step s sound-was (had-room (write off v) s e second) off (decode (s .shape .sources) (s .shape .contexts) off) v
-      (λ ne. decode-iff (s .shape .sources) (s .shape .contexts) off (sound-was .limits .sources .1, sound-was .limits .contexts .1) (aligned off v e) (decode (s .shape .sources) (s .shape .contexts) off) ne .0 refl)
+      let was = was-sound (write off v) s e first in
+      let n : ℕ = s .shape .sources in
+      let m : ℕ = s .shape .contexts in
+      write-step s was (had-room (write off v) s e second) off (decode n m off) v
+      (λ ne. decode-iff n m off (was .limits .sources .1, was .limits .contexts .1) (aligned off v e) (decode n m off) ne .0 refl)
   after-sound (notification c) e = was-sound (notification c) s e first
   after-sound mean e = was-sound mean s e first
   after-sound (byClaim p) e = was-sound (byClaim p) s e first
   after-sound (byTime p) e = was-sound (byTime p) s e first
   after-sound totals e = was-sound totals s e first
-
-  no-effect : (a : Call) → isStep a ≡ false → effect a s ≡ s
-  unfolding isStep effect
-  no-effect (line i v) t = absurd (not-so t refl)
-  no-effect (advance n) t = absurd (not-so t refl)
-  no-effect (read off) t = absurd (not-so t refl)
-  no-effect (write off v) t = absurd (not-so t refl)
-  no-effect (notification c) t = refl
-  no-effect mean t = refl
-  no-effect (byClaim p) t = refl
-  no-effect (byTime p) t = refl
-  no-effect totals t = refl
 
   pub accepted-sound : (a : Call) → respond a s .number ≡ 0 → Sound (respond a s .state)
   accepted-sound a e = subst Sound (sym (accepted-gives a s e)) (after-sound a e)
@@ -154,46 +72,3 @@ module _ (s : State) where
       (λ (t : So (eqb (respond a s .number) 0)). accepted-sound a (eqb-true _ 0 t))
       (λ t. subst Sound (sym (refused-gives a s (eqb-false _ 0 t) .1)) f)
       (dichotomy (eqb (respond a s .number) 0))
-
-  -- "Each accepted step adds one to the step count; refused ones, notifications and reports don't."
-  pub step-counts : (a : Call) → respond a s .number ≡ 0 → So (isStep a) → respond a s .state .steps ≡ s .steps + 1
-  unfolding after withSteps
-  step-counts a e t = ap (λ (k : State). k .steps) (accepted-gives a s e ∙ cond-so _ _ t)
-
-  -- notifications and reports leave the whole state as it was
-  pub others-leave : (a : Call) → isStep a ≡ false → respond a s .state ≡ s
-  unfolding after
-  others-leave a t = ⊎-elim
-      (λ (u : So (eqb (respond a s .number) 0)). accepted-gives a s (eqb-true _ 0 u) ∙ cond-not _ _ t ∙ no-effect a t)
-      (λ u. refused-gives a s (eqb-false _ 0 u) .1)
-      (dichotomy (eqb (respond a s .number) 0))
-
--- which number is given, one ground at a time
-pub first-hit : (g : Ground) (gs : List Ground) → So (g .holds) → firstOf (g ∷ gs) ≡ g .number
-unfolding firstOf
-first-hit g gs t = cond-so (g .number) (firstOf gs) t
-
-pub first-miss : (g : Ground) (gs : List Ground) → g .holds ≡ false → firstOf (g ∷ gs) ≡ firstOf gs
-unfolding firstOf
-first-miss g gs e = cond-not (g .number) (firstOf gs) e
-
--- where the number is 0, no refusal's case holds
-pub clear : (a : Call) (s : State) → firstOf (grounds a s) ≡ 0 → (g : Ground) → List·Memᴰ g (grounds a s) → g .holds ≡ false
-unfolding respond
-clear a s e = none-holds a s e
-
--- the outcome of a call, by the number
-pub refused-as : (a : Call) (s : State) (r : Refusal) → firstOf (grounds a s) ≡ numberOf r →
-    respond a s ≡ record { number = numberOf r; values = replicate (length (valuesOf a s)) 0; state = s }
-unfolding respond
-refused-as a s r e =
-    let n = number-back r in
-    let fails = ap (λ (k : ℕ). eqb k 0) (e ∙ n .1) ∙ eqb·suc-zero (n .0) in
-    λ i. record { number = e i; values = cond-not (valuesOf a s) (replicate (length (valuesOf a s)) 0) fails i; state = cond-not (after a s) s fails i }
-
-pub accepted-as : (a : Call) (s : State) → firstOf (grounds a s) ≡ 0 →
-    respond a s ≡ record { number = 0; values = valuesOf a s; state = after a s }
-unfolding respond
-accepted-as a s e =
-    let holds = eq-eqb (firstOf (grounds a s)) 0 e in
-    λ i. record { number = e i; values = cond-so (valuesOf a s) (replicate (length (valuesOf a s)) 0) holds i; state = cond-so (after a s) s holds i }

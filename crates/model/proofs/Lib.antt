@@ -1,4 +1,8 @@
+pub mod Answers
+pub mod Plain
 pub mod Account
+pub mod Rows
+pub mod Booking
 pub mod Sound
 pub mod Claim
 pub mod Waits
@@ -13,3 +17,4 @@ pub mod Refusals
 pub mod Reports
 pub mod Tallies
 pub mod Runs
+pub mod Quick

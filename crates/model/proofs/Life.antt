@@ -2,14 +2,12 @@
 -- Assumes nothing.
 use mathlib.Core.Path.{_≡_, _∙_, refl, ap}
 use mathlib.Core.Bool.{Bool, false, not, _&&_, So, not-and-self}
-use mathlib.Core.Logic.{_⊎_, ⊎-elim, _≢_, _↔_}
+use mathlib.Core.Logic.{⊎-elim, _≢_}
 use Prim.Native.Nat.{ℕ, _+_, _-_, _≤_, _<_}
 use native.Mathlib.Omega.{arith}
 use lib.Dec.{ltb, eqb}
 use borrow.Author.Tests.{ltb-true, ltb-false, eqb-true, eqb-false, eq-eqb}
 use Rattle.limits.specs.Limits.{sourceRoom, mostEdges}
-use Rattle.laws.specs.Fold.{allOf}
-use Rattle.laws.proofs.Fold.{test-at}
 use Rattle.laws.proofs.Truth.{dichotomy, not-so, and-intro, and-left, and-right, cond-so, cond-elim}
 use Rattle.model.specs.declared.Shape.{Shape}
 use Rattle.model.specs.declared.Requests.{Requests}
@@ -17,17 +15,10 @@ use Rattle.model.specs.declared.State.{State}
 use Rattle.model.specs.declared.Request.{Request}
 use Rattle.model.specs.Board.{request, setRequest, isSource, kindOf, priority, withRequest}
 use Rattle.model.specs.Waits.{isIdle, isPending, openAge, wait, sourceClaims, sourceWaited}
-use Rattle.model.specs.Life.{lineAt, raised, edgeCounted, levelChanged, edgeChanged, lineChanged, lineChange, served, takesEffect, TakesEffect, idled, edgeTaken, completed}
+use Rattle.model.specs.Life.{lineAt, raised, edgeCounted, levelChanged, edgeChanged, lineChanged, lineChange, served, idled, edgeTaken, completed}
 use Rattle.model.specs.Sound.{SoundSource, Sound}
 use Rattle.model.proofs.Board.{request-back}
-
--- "It takes effect exactly if v is in 1..N, enabled in c now, and in service."
-pub takes-effect-iff : (s : State) (c v : ℕ) → So (takesEffect s c v) ↔ TakesEffect s c v
-unfolding takesEffect
-takes-effect-iff s c v = (
-  (λ t. record { source = test-at _ t 0; enable = test-at _ t 1; service = test-at _ t 2 }),
-  (λ f. unfold allOf in and-intro (f .source) (and-intro (f .enable) (and-intro (f .service) refl))),
-)
+pub use Rattle.model.proofs.Plain.{takes-effect-iff}
 
 module _ (h : Shape) (clock i prio claimed waited : ℕ) (source : So (isSource (h .sources) i)) where
   abbrev Fine : Request → Type 0

@@ -2,17 +2,18 @@
 -- Assumes nothing.
 use mathlib.Core.Path.{_≡_, _∙_, refl, sym, ap, subst}
 use mathlib.Core.Bool.{Bool, false, not, cond, _&&_, So}
-use mathlib.Core.Logic.{_⊎_, ⊎-elim, _≢_}
+use mathlib.Core.Logic.{_⊎_, ⊎-elim, ⊎-map, _≢_, _↔_}
 use mathlib.Core.List.{List, _++_}
 use Prim.Native.Nat.{ℕ, zero, suc, _+_, _-_, _*_, _≤_, _<_}
 use native.Mathlib.Omega.{arith}
-use lib.Dec.{ltb, eqb}
+use lib.Dec.{leb, ltb, eqb}
 use lib.ListN.{length, getD, replicate, length-replicate, getD-replicate, length-append, List·getD-append}
 use lib.Seq.{getD-append-add}
-use borrow.Author.Tests.{leb-true, eqb-true, ltb-true, ltb-false}
-use Rattle.limits.specs.Limits.{sourceRoom, lastSource, contextRoom, wordRoom, enableRoom, bucketRoom}
+use borrow.Author.Tests.{leb-true, leb-false, eqb-true, eqb-false, ltb-true, ltb-false}
+use Rattle.limits.specs.Limits.{sourceRoom, lastSource, contextRoom, wordRoom, enableRoom, bucketRoom, mostBits}
+use Rattle.laws.specs.Fold.{allTo}
 use Rattle.laws.specs.Bits.{bit}
-use Rattle.laws.proofs.Truth.{dichotomy, not-so, and-left, and-right}
+use Rattle.laws.proofs.Truth.{dichotomy, not-so, so-not, fails, and-intro, and-left, and-right}
 use Rattle.laws.proofs.Fold.{all-at, sum-zero}
 use Rattle.laws.proofs.Bits.{bit-above}
 use Rattle.model.specs.declared.Shape.{Shape}
@@ -22,8 +23,9 @@ use Rattle.model.specs.Refusals.{firstOf}
 use Rattle.model.specs.Waits.{isPending, isIdle, openAge, sourceClaims, sourceWaited, boardClaims, boardWaited, bucketClaims, bucketTicks}
 use Rattle.model.specs.Sound.{WithinLimits, SoundSource, SoundContext, Sound}
 use Rattle.model.specs.Calls.{badShape, make}
-use Rattle.model.proofs.Sound.{limits-facts}
-use Rattle.model.proofs.Claim.{range-source}
+use Rattle.model.proofs.Sound.{limits-facts, limits-test}
+use Rattle.model.proofs.Claim.{source-range, range-source}
+use Rattle.model.proofs.Rows.{outside-iff}
 
 -- a request of which nothing has been heard
 zeroRequest : Request
@@ -186,3 +188,66 @@ unmade-zero n c b kinds ne = ⊎-elim
     (λ t. absurd (ne (made-when n c b kinds t .0)))
     (unmade-when n c b kinds)
     (dichotomy (withinLimits n c b && kindsFor n kinds))
+
+-- the row of 1: "N, C or b outside its range, not exactly N kind bytes, or a kind above 2"
+pub data Misshapen (n c b : ℕ) (kinds : List ℕ) : Type 0 where
+  sources : (n ≡ 0) ⊎ (lastSource < n) → Misshapen n c b kinds
+  contexts : (c ≡ 0) ⊎ (contextRoom < c) → Misshapen n c b kinds
+  bits : (b ≡ 0) ⊎ (mostBits < b) → Misshapen n c b kinds
+  count : length kinds ≢ n → Misshapen n c b kinds
+  kind : (i : ℕ) → i < length kinds → 2 < getD kinds i 0 → Misshapen n c b kinds
+
+in-or-out : (most x : ℕ) → ((1 ≤ x) × (x ≤ most)) ⊎ ((x ≡ 0) ⊎ (most < x))
+in-or-out most x = ⊎-map (source-range most x) (λ t. outside-iff most x .0 (ap not t)) (dichotomy (isSource most x))
+
+not-out : (most x : ℕ) → (1 ≤ x) × (x ≤ most) → (x ≡ 0) ⊎ (most < x) → ⊥
+not-out most x h o = not-so (fails _ (outside-iff most x .1 o)) (range-source most x (h .0) (h .1))
+
+-- a test that fails of all fails of one
+fails-at : (f : ℕ → Bool) (n : ℕ) → allTo f n ≡ false → (i : ℕ) × (i < n) × (f i ≡ false)
+unfolding allTo
+fails-at f zero e = absurd (not-so e refl)
+fails-at f (suc n) e = ⊎-elim
+    (λ (t : So (allTo f n)). (n, omega arith, so-not (f n) (λ k. not-so e (and-intro t k))))
+    (λ t. let one = fails-at f n t in (one .0, omega (arith, one .1), one .2))
+    (dichotomy (allTo f n))
+
+pub bad-shape-iff : (n c b : ℕ) (kinds : List ℕ) → (make n c b kinds .number ≡ 1) ↔ Misshapen n c b kinds
+unfolding kindsFor
+bad-shape-iff n c b kinds = (refused, (λ m. unmade-when n c b kinds (so-not _ (λ t. never m t)) .0))
+  where
+    right : Bool
+    right = allTo (λ i. leb (getD kinds i 0) 2) (length kinds)
+
+    -- within the limits, the kinds are wrong
+    by-kinds : WithinLimits n c b → make n c b kinds .number ≡ 1 → Misshapen n c b kinds
+    by-kinds limits e = ⊎-elim
+        (λ (long : So (eqb (length kinds) n)). ⊎-elim
+        (λ (t : So right). absurd (omega (arith, e, made-when n c b kinds (and-intro (limits-test n c b limits) (and-intro long t)) .0)))
+        (λ t. let one = fails-at _ (length kinds) t in kind (one .0) (one .1) (leb-false (getD kinds (one .0) 0) 2 (one .2)))
+        (dichotomy right))
+        (λ long. count (eqb-false (length kinds) n long))
+        (dichotomy (eqb (length kinds) n))
+
+    refused : make n c b kinds .number ≡ 1 → Misshapen n c b kinds
+    refused e = ⊎-elim
+        (λ ns. ⊎-elim
+        (λ cs. ⊎-elim (λ bs. by-kinds (record { sources = ns; contexts = cs; bits = bs }) e) bits (in-or-out mostBits b))
+        contexts (in-or-out contextRoom c))
+        sources (in-or-out lastSource n)
+
+    never : Misshapen n c b kinds → So (withinLimits n c b && kindsFor n kinds) → ⊥
+    never m t = wrong m
+      where
+        limits : WithinLimits n c b
+        limits = limits-facts n c b (and-left (withinLimits n c b) (kindsFor n kinds) t)
+
+        these : So (kindsFor n kinds)
+        these = and-right (withinLimits n c b) (kindsFor n kinds) t
+
+        wrong : Misshapen n c b kinds → ⊥
+        wrong (sources o) = not-out lastSource n (limits .sources) o
+        wrong (contexts o) = not-out contextRoom c (limits .contexts) o
+        wrong (bits o) = not-out mostBits b (limits .bits) o
+        wrong (count ne) = ne (eqb-true (length kinds) n (and-left (eqb (length kinds) n) right these))
+        wrong (kind i l h) = omega (arith, h, leb-true (getD kinds i 0) 2 (all-at _ (length kinds) (and-right (eqb (length kinds) n) right these) i l))

@@ -45,16 +45,17 @@ fresh-logged h = record {
     ageless : boardOpen (freshIn h .clock) (freshIn h .requests) ≡ 0
     ageless = unfold boardOpen openAge in sum-zero _ sourceRoom (λ i l. cond-not _ _ (idle i l))
 
-module _ (h : Shape) (sound : Sound (freshIn h)) where
-  run-sound : (calls : List Call) → Sound (run (freshIn h) calls)
-  unfolding run
-  run-sound [] = sound
-  run-sound (a ∷ earlier) = stays-sound (run (freshIn h) earlier) a (run-sound earlier)
+-- every state of a run from a sound one is sound
+pub run-sound : (s : State) → Sound s → (calls : List Call) → Sound (run s calls)
+unfolding run
+run-sound s f [] = f
+run-sound s f (a ∷ earlier) = stays-sound (run s earlier) a (run-sound s f earlier)
 
-  run-logged : (calls : List Call) → Logged (run (freshIn h) calls) (past (freshIn h) calls)
-  unfolding run past
-  run-logged [] = fresh-logged h
-  run-logged (a ∷ earlier) = respond-logged (run (freshIn h) earlier) (past (freshIn h) earlier) (run-logged earlier) (run-sound earlier) a
+run-logged : (h : Shape) → Sound (freshIn h) → (calls : List Call) → Logged (run (freshIn h) calls) (past (freshIn h) calls)
+unfolding run past
+run-logged h f [] = fresh-logged h
+run-logged h f (a ∷ earlier) =
+    respond-logged (run (freshIn h) earlier) (past (freshIn h) earlier) (run-logged h f earlier) (run-sound (freshIn h) f earlier) a
 
 -- Demand 3: "Over any run of calls from a fresh state, .. the total equals .."
 pub accounted : (n c b : ℕ) (kinds : List ℕ) → make n c b kinds .number ≡ 0 → (calls : List Call) →
@@ -64,4 +65,4 @@ accounted n c b kinds e calls =
     subst (λ (s : State). Accounted (run s calls) (past s calls)) (sym (made .0))
     (logged-accounted (run (freshIn (shapeOf n c b kinds)) calls) (past (freshIn (shapeOf n c b kinds)) calls)
     (run-logged (shapeOf n c b kinds) (subst Sound (made .0) (made .1)) calls)
-    (run-sound (shapeOf n c b kinds) (subst Sound (made .0) (made .1)) calls))
+    (run-sound (freshIn (shapeOf n c b kinds)) (subst Sound (made .0) (made .1)) calls))

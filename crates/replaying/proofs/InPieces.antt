@@ -16,18 +16,14 @@ use Rattle.laws.proofs.Truth.{and-intro, cond-so, cond-not, cond-elim}
 use Rattle.model.specs.declared.State.{State}
 use Rattle.model.specs.Board.{zeroState}
 use Rattle.model.specs.Sound.{Sound}
-use Rattle.model.specs.Calls.{Call, make}
-use Rattle.model.specs.Run.{run}
 use Rattle.model.proofs.Sound.{sound-test}
-use Rattle.model.proofs.Calls.{stays-sound}
-use Rattle.model.proofs.Make.{made-sound}
 use Rattle.replaying.specs.declared.Place.the-variants.{Before, On}
 use Rattle.replaying.specs.declared.Replaying.{Replaying}
 use Rattle.replaying.specs.Replay.{Stand, before, on, ended, Told, answer, Replay, lineEnds, fed, fedAll, lastIn, closing, finished, fresh, replay}
 use Rattle.replaying.specs.Pieces.{lineLength, begunAt, standOf, shown, padded, kept, boardSound, fit, ending, Replayed, fedPieces, printedInPieces, joinedPieces}
 use Rattle.replaying.proofs.Chunks.{fed-apart}
 use Rattle.replaying.proofs.Through.{after, printed-apart, line-append, cut-answer}
-use Rattle.replaying.proofs.Boards.{Reached, replay-reached}
+use Rattle.replaying.proofs.Boards.{replay-accounted}
 
 -- what is held of a line that has begun, and a replay with no more of its line than that
 abbrev cut : Stand → List ℕ → List ℕ
@@ -165,18 +161,6 @@ unfolding fedAll
 fed-all-one-line r [] f = f
 fed-all-one-line r (b ∷ bs) f = fed-all-one-line (fed r b) bs (fed-one-line r b f)
 
--- a board that calls lead to is sound
-run-sound : (s : State) (calls : List Call) → Sound s → Sound (run s calls)
-unfolding run
-run-sound s [] f = f
-run-sound s (a ∷ earlier) f = stays-sound (run s earlier) a (run-sound s earlier f)
-
-reached-sound : (s : State) → Reached s → Sound s
-reached-sound s f =
-    subst Sound (sym (f .is))
-    (run-sound (make (f .sources) (f .contexts) (f .bits) (f .kinds) .state) (f .calls)
-    (made-sound (f .sources) (f .contexts) (f .bits) (f .kinds) (f .accepted) .1))
-
 -- a replay is fit that holds the beginning of one line, and whose board is sound
 line-fit : (board : Bool) (l : List ℕ) → OneLine l → So board →
     So (allOf (leb (length (take 256 l)) 256 ∷ eqb (lineLength (take (length (take 256 l)) (padded l))) (length (take 256 l)) ∷ board ∷ []))
@@ -194,7 +178,7 @@ kept-fit ended l f g = refl
 replay-fit : (input : List ℕ) → So (fit (keptOf (fedAll fresh input)))
 replay-fit input = kept-fit (fedAll fresh input .stand) (fedAll fresh input .begun)
     (fed-all-one-line fresh input (unfold fresh lineLength in refl))
-    (λ s e. reached-sound s (replay-reached input s e))
+    (λ s e. replay-accounted input s e .sound)
 
 -- the end of the script
 last-line : (p : Stand) (l m q : List ℕ) → answer p m ≡ answer p l →

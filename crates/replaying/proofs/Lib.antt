@@ -3,6 +3,7 @@ pub mod Chunks
 pub mod Ends
 pub mod Through
 pub mod KindLetters
+pub mod Swift
 pub mod Example
 pub mod Boards
 pub mod InPieces

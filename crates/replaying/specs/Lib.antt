@@ -1,3 +1,4 @@
 pub mod Replay
 pub mod Text
 pub mod Pieces
+pub mod Script
