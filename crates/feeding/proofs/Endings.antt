@@ -7,18 +7,18 @@ use native.Mathlib.Omega.{arith}
 use lib.ListN.{length, take}
 use Rattle.replaying.specs.declared.Replaying.{Replaying}
 use Rattle.replaying.specs.Replay.{Stand, before, on, ended, answer, Replay, lineEnds, fed, fedAll, lastIn, closing, finished}
-use Rattle.replaying.specs.Pieces.{standOf, shown, kept}
+use Rattle.replaying.specs.Pieces.{standOf, shown, paused}
 use Rattle.replaying.proofs.Short.{answer-short}
 
 -- the replay that is held stands where it stood
-pub kept-stands : (p : Stand) (l : List ℕ) → standOf (kept p l .place) (kept p l .state) ≡ p
-unfolding kept standOf
-kept-stands before l = refl
-kept-stands (on s) l = refl
-kept-stands ended l = refl
+pub paused-stands : (p : Stand) (l : List ℕ) → standOf (paused p l .place) (paused p l .state) ≡ p
+unfolding paused standOf
+paused-stands before l = refl
+paused-stands (on s) l = refl
+paused-stands ended l = refl
 
 -- no line has begun
-pub ending-none : (r : Replaying) → r .held ≡ 0 → finished (lastIn (shown r .begun) (shown r)) ≡ closing (standOf (r .place) (r .state))
+pub ending-none : (r : Replaying) → r .count ≡ 0 → finished (lastIn (shown r .begun) (shown r)) ≡ closing (standOf (r .place) (r .state))
 unfolding shown lastIn finished
 ending-none r e = ap (λ (k : ℕ). finished (lastIn (take k (r .begun)) (shown r))) e
 
@@ -32,7 +32,7 @@ pub feed-one : (r : Replay) → fedAll r (10 ∷ []) ≡ lineEnds r
 unfolding fedAll fed
 feed-one r = refl
 
-pub ending-line : (r : Replaying) → (r .held ≡ 0 → ⊥) → length (take (r .held) (r .begun)) ≡ r .held →
+pub ending-line : (r : Replaying) → (r .held ≡ 0 → ⊥) → length (take (r .count) (r .begun)) ≡ r .count →
     fedAll (shown r) (10 ∷ []) .printed ++ closing (fedAll (shown r) (10 ∷ []) .stand) ≡ finished (lastIn (shown r .begun) (shown r))
 unfolding finished
 ending-line r ne e = sym (ap finished (last-some (shown r .begun) (shown r) long ∙ sym (feed-one (shown r))))
@@ -45,4 +45,4 @@ pub one-short : (r : Replaying) → length (fedAll (shown r) (10 ∷ []) .printe
 one-short r = omega (arith, ap (λ (k : Replay). length (k .printed)) (feed-one (shown r)), short)
   where
     short : length (lineEnds (shown r) .printed) ≤ 29
-    short = unfold lineEnds shown in answer-short (standOf (r .place) (r .state)) (take (r .held) (r .begun))
+    short = unfold lineEnds shown in answer-short (standOf (r .place) (r .state)) (take (r .count) (r .begun))

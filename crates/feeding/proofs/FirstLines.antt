@@ -1,11 +1,12 @@
 -- The first line: what the grammar found of it, the board that is made or refused, and that such a board is sound.
 -- Assumes nothing.
-use mathlib.Core.Path.{_≡_, _∙_, refl, sym, ap, subst}
+use mathlib.Core.Path.{_≡_, _∙_, sym, ap, subst}
 use mathlib.Core.List.{List, []}
 use Prim.Native.Nat.{ℕ, _-_}
 use lib.Dec.{eqb}
 use lib.ListN.{take, drop}
 use borrow.Author.Tests.{eqb-true}
+use Rattle.limits.specs.Limits.{heldRoom}
 use Rattle.laws.proofs.Truth.{cond-not, cond-elim}
 use Rattle.model.specs.declared.Answered.{Answered}
 use Rattle.model.specs.declared.Answer.{Answer}
@@ -15,48 +16,28 @@ use Rattle.model.specs.Refusals.{numberOf, answerNumber, answered}
 use Rattle.model.specs.Calls.{make}
 use Rattle.model.specs.Sound.{Sound}
 use Rattle.model.proofs.Make.{made-sound}
-use Rattle.commands.specs.declared.Command.{Command}
-use Rattle.commands.specs.declared.Command.the-variants.{Make, Line, Advance, Read, Write, Notify, Unreadable}
-use Rattle.commands.specs.Grammar.{startOf, commandOf}
+use Rattle.commands.specs.declared.Opening.{Opening}
+use Rattle.commands.specs.declared.Opening.the-variants as opening
+use Rattle.commands.specs.Grammar.{commandOf, openingOf}
 use Rattle.replaying.specs.Replay.{before, on, ended, Told, refusedLine, kindBytes, started, badStart, firstLine, answer}
 use Rattle.replaying.proofs.Through.{cut-answer}
-use Rattle.plic.proofs.Obeyed.{SoundAt, not-zero}
-
--- what is no first line makes no difference to a first line
-start-same : (c : Command) (bytes : List ℕ) → firstLine (startOf c) bytes ≡ firstLine c bytes
-unfolding startOf firstLine
-start-same (Make n m b k) bytes = refl
-start-same (Line i v) bytes = refl
-start-same (Advance n) bytes = refl
-start-same (Read off) bytes = refl
-start-same (Write off v) bytes = refl
-start-same (Notify c) bytes = refl
-start-same Unreadable bytes = refl
-
--- the first line by the command that the grammar found
-pub first-as : (bytes : List ℕ) (found k : Command) → found ≡ startOf (commandOf bytes) → found ≡ k → firstLine k bytes ≡ firstLine (commandOf bytes) bytes
-first-as bytes found k e f = ap (λ (c : Command). firstLine c bytes) (sym f ∙ e) ∙ start-same (commandOf bytes) bytes
+use Rattle.feeding.proofs.Obeyed.{SoundAt, not-zero}
 
 made-stand : (n m b : ℕ) (kinds : List ℕ) → SoundAt (started (make n m b kinds) .stand)
 unfolding started
 made-stand n m b kinds = cond-elim SoundAt (eqb (make n m b kinds .number) 0) (λ t. made-sound n m b kinds (eqb-true _ 0 t) .1) (λ _. tt)
 
-first-line-sound : (c : Command) (bytes : List ℕ) → SoundAt (firstLine c bytes .stand)
+first-line-sound : (o : Opening) (bytes : List ℕ) → SoundAt (firstLine o bytes .stand)
 unfolding firstLine badStart
-first-line-sound (Make n m b k) bytes = made-stand n m b (kindBytes (drop k bytes))
-first-line-sound (Line i v) bytes = tt
-first-line-sound (Advance n) bytes = tt
-first-line-sound (Read off) bytes = tt
-first-line-sound (Write off v) bytes = tt
-first-line-sound (Notify c) bytes = tt
-first-line-sound Unreadable bytes = tt
+first-line-sound (opening.Board n m b k) bytes = made-stand n m b (kindBytes (drop k bytes))
+first-line-sound opening.Unreadable bytes = tt
 
 first-sound : (bytes : List ℕ) → SoundAt (answer before bytes .stand)
 unfolding answer
-first-sound bytes = first-line-sound (commandOf bytes) bytes
+first-sound bytes = first-line-sound (openingOf (commandOf bytes)) bytes
 
 -- the first line: a board is made, or none
-module _ (l line : List ℕ) (made : Answered) (cut : line ≡ take 256 l) (started-is : started (answered made) ≡ firstLine (commandOf line) line) where
+module _ (l line : List ℕ) (made : Answered) (cut : line ≡ take heldRoom l) (started-is : started (answered made) ≡ firstLine (openingOf (commandOf line)) line) where
   told-first : answer before l ≡ started (answered made)
   told-first = sym (ap (answer before) cut ∙ cut-answer before l) ∙ (unfold answer in sym started-is)
 

@@ -4,7 +4,9 @@ use mathlib.Core.Path.{_≡_, _∙_, refl, sym, ap, subst}
 use mathlib.Core.List.{List, [], _++_}
 use Prim.Native.Nat.{ℕ, suc, _+_, _-_, _*_, _≤_, _<_}
 use native.Mathlib.Omega.{arith}
-use lib.ListN.{length, take, drop, length-drop}
+use lib.ListN.{length, take, drop, length-drop, take-append-drop}
+use lib.Seq.{take-all, take-length}
+use Rattle.limits.specs.Limits.{heldRoom}
 use Rattle.model.specs.declared.State.{State}
 use Rattle.model.specs.Sound.{Sound}
 use Rattle.commands.specs.Grammar.{commandOf}
@@ -12,11 +14,18 @@ use Rattle.commands.specs.declared.Command.{Command}
 use Rattle.replaying.specs.declared.Said.{Said}
 use Rattle.replaying.specs.Replay.{on, Told, commanded, answer, Replay, fedAll}
 use Rattle.replaying.specs.Text.{saidBytes, Written, put}
-use Rattle.replaying.specs.Pieces.{lineLength, lineFeeds}
+use Rattle.replaying.specs.declared.Place.the-variants.{On}
+use Rattle.replaying.specs.Pieces.{lineLength, lineFeeds, padded, paused}
+use Rattle.replaying.proofs.Chunks.{fed-apart}
 use Rattle.replaying.proofs.Print.{written-length, written-then, written-put}
-use Rattle.replaying.proofs.Ends.{line-most, line-more, feeds-part, feeds-more}
-use Rattle.plic.specs.Engine.{Obeyed, boarded, Gone}
-use Rattle.plic.proofs.Obeyed.{obeyed-sound}
+use Rattle.replaying.proofs.Ends.{fed-held, line-most, line-more, feeds-part, feeds-more}
+use Rattle.feeding.specs.declared.progress.Progress.{Progress}
+use Rattle.feeding.specs.Engine.{Obeyed, boarded, FeedsBoard}
+use Rattle.feeding.proofs.Obeyed.{obeyed-sound}
+
+-- the rest of a slice from a place on
+pub rest-of : (n : ℕ) (l : List ℕ) → take (length l - n) (drop n l) ≡ drop n l
+rest-of n l = take-all (length l - n) (drop n l) (omega (arith, length-drop n l))
 
 pub record Going (s₀ s : State) (input out₀ out : List ℕ) (from at written end : ℕ) : Type 0 where
   pub plenty : from + 20 * lineFeeds input ≤ length out₀
@@ -42,17 +51,42 @@ going-start s input out from end f h e = record {
 }
 
 module _ {s₀ s : State} {input out₀ out : List ℕ} {from at written end : ℕ} (g : Going s₀ s input out₀ out from at written end) where
-  -- no line ends in what is left
-  pub going-over : (t : State) → s ≡ t → length input ≤ end → Gone s₀ input out₀ out from (record { state = t; at = at; written = written })
-  going-over t e h = record {
-    within = g .within;
-    rest = omega (arith, g .ends, length-drop at input, line-most (drop at input), g .within);
-    stands = g .stands ∙ ap on e;
-    fresh = g .fresh;
-    prints = g .prints;
-    room = g .room;
-    sound = subst Sound e (g .sound);
+  -- no line ends in what is left: it is the line that begins
+  pub going-over : (p : Progress) → length input ≤ end →
+      let rest : List ℕ = take (length input - at) (drop at input) in
+      p ≡ record { replay = record { place = On; state = s; begun = padded rest; count = length (take heldRoom rest) }; written = written } →
+      FeedsBoard s₀ input out₀ out from p
+  unfolding paused
+  going-over p h e = record {
+    feeds = record {
+      holds = ap (λ (k : Progress). k .replay) e ∙ ap (paused (on s)) (rest-of at input) ∙ sym (λ i. paused (whole i .stand) (whole i .begun));
+      prints = subst (λ (k : ℕ). Written out₀ out from k (fedAll (boarded s₀) input .printed)) (sym written-is)
+          (subst (Written out₀ out from written) (sym (ap (λ (r : Replay). r .printed) whole)) (g .prints));
+    };
+    stands = ap (λ (r : Replay). r .stand) whole ∙ ap on (sym state-is);
+    sound = subst Sound (sym state-is) (g .sound);
+    room = omega (arith, written-is, g .room, feeds-part at input);
   }
+    where
+      written-is : p .written ≡ written
+      written-is = ap (λ (k : Progress). k .written) e
+
+      state-is : p .replay .state ≡ s
+      state-is = ap (λ (k : Progress). k .replay .state) e
+
+      so-far : Replay
+      so-far = fedAll (boarded s₀) (take at input)
+
+      over : lineLength (drop at input) ≡ length (drop at input)
+      over = omega (arith, g .ends, length-drop at input, line-most (drop at input), g .within)
+
+      whole : fedAll (boarded s₀) input ≡ record { stand = on s; begun = drop at input; printed = so-far .printed }
+      whole =
+          ap (fedAll (boarded s₀)) (sym (take-append-drop at input))
+          ∙ fed-apart (boarded s₀) (take at input) (drop at input)
+          ∙ ap (fedAll so-far) (sym (take-length (drop at input)))
+          ∙ fed-held so-far (drop at input) (length (drop at input)) (omega (arith, over))
+          ∙ (λ i. record { stand = g .stands i; begun = g .fresh i ++ take-length (drop at input) i; printed = so-far .printed })
 
   -- the line that ends at `end`
   line-there : end < length input → lineLength (drop at input) < length (drop at input)

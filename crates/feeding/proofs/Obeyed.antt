@@ -1,35 +1,45 @@
--- A command of a script, by the call that it asks for: refused, or gone through. And the state after it is sound.
+-- A command of a script, by the call that it asks for: refused, or gone through; what each means for the whole state; and the state
+-- after it is sound.
 -- Assumes nothing.
 use mathlib.Core.Path.{_≡_, _∙_, refl, sym, ap, subst}
-use mathlib.Core.Bool.{Bool, true, false, not, cond, So}
+use mathlib.Core.Bool.{Bool, false, cond, So}
 use mathlib.Core.List.{List}
-use Prim.Native.Nat.{ℕ, suc, _+_, _≤_, _<_}
-use native.Mathlib.Nat.{suc-ne-zero}
-use lib.Dec.{leb, ltb, eqb, eqb·suc-zero}
+use mathlib.Core.Logic.{⊎-elim}
+use Prim.Native.Nat.{ℕ, _+_}
+use lib.Dec.{eqb, eqb·suc-zero}
 use lib.ListN.{getD}
-use borrow.Author.Tests.{ltb-false, leb-false, eqb-true, not-false}
-use Rattle.laws.proofs.Truth.{cond-not, cond-elim}
+use borrow.Author.Tests.{eqb-true}
+use Rattle.laws.proofs.Truth.{dichotomy, cond-so, cond-not, cond-elim}
+use Rattle.model.specs.declared.Settings.{Settings}
+use Rattle.model.specs.declared.Requests.{Requests}
+use Rattle.model.specs.declared.Counts.{Counts}
+use Rattle.model.specs.declared.Buckets.{Buckets}
 use Rattle.model.specs.declared.State.{State}
 use Rattle.model.specs.declared.Refusal.{Refusal}
-use Rattle.model.specs.Board.{isContext, request, priority, threshold, enableWord, enabled, withClock, withSteps}
+use Rattle.model.specs.declared.Refusal.the-variants as refusal
+use Rattle.model.specs.Board.{request, priority, threshold, enableWord, enabled, withClock, withSteps}
 use Rattle.model.specs.Waits.{isPending}
-use Rattle.model.specs.Life.{advanced, pendingFor, rouses, notified}
-use Rattle.model.specs.Refusals.{numberOf, firstOf}
+use Rattle.model.specs.Life.{lineChange, advanced, pendingFor, rouses, notified}
+use Rattle.model.specs.Registers.{decode, readOf, afterRead, afterWrite}
+use Rattle.model.specs.Refusals.{numberOf, Ground, firstOf}
 use Rattle.model.specs.Sound.{Sound}
-use Rattle.model.specs.Calls.{Call, line, advance, read, write, notification, notSound, noStepLeft, offsetAbove, offsetUnaligned, noSuchSource, noSuchContext, clockPast, isStep, grounds, valuesOf, effect, after, respond}
+use Rattle.model.specs.Calls.{Call, line, advance, read, write, notification, isStep, grounds, valuesOf, effect, after, respond}
 use Rattle.model.proofs.Sound.{sound-test}
 use Rattle.model.proofs.Refusals.{number-back}
 use Rattle.model.proofs.Calls.{accepted-as, stays-sound}
 use Rattle.commands.specs.declared.Command.{Command}
 use Rattle.commands.specs.declared.Command.the-variants.{Make, Line, Advance, Read, Write, Notify, Unreadable}
 use Rattle.replaying.specs.declared.Said.{Said}
-use Rattle.replaying.specs.declared.Said.the-variants.{Refused}
+use Rattle.replaying.specs.declared.Said.the-variants.{Nothing, Value, Refused}
 use Rattle.replaying.specs.Replay.{Stand, before, on, ended, Told, goesOn, silent, commanded, refusedLine, valueLine}
 use Rattle.replaying.specs.Text.{saidBytes}
-use Rattle.plic.specs.declared.obey.Did.{Did}
-use Rattle.plic.specs.Leaves.{enabledIn, pendingForIn, rousesIn, notifiedIn}
-use Rattle.plic.specs.Checks.{lineGrounds, advanceGrounds, accessGrounds, contextGrounds}
-use Rattle.plic.specs.Engine.{Obeyed, advanceDid, notifySaid}
+use Rattle.leaves.specs.Leaves.{enabledIn, pendingForIn, rousesIn, notifiedIn}
+use Rattle.leaves.specs.Checks.{lineGrounds, advanceGrounds, accessGrounds, contextGrounds}
+use Rattle.steps.specs.Arrays.{requestsOf, lineSet, Claimed, readIn, claimedIn, settingsWritten, requestsWritten}
+use Rattle.steps.proofs.Whole.{withWritten, line-whole, read-value, read-whole, untouched, write-whole}
+use Rattle.plic.proofs.Refusing.{Owns, line-owns, advance-owns, read-owns, write-owns, notification-owns, own-number}
+use Rattle.feeding.specs.declared.obey.Reply.{Reply}
+use Rattle.feeding.specs.Engine.{Obeyed, stepReply, notifySaid}
 
 pub not-zero : (r : Refusal) → eqb (numberOf r) 0 ≡ false
 not-zero r =
@@ -71,102 +81,153 @@ commanded-sound Unreadable s f = f
 pub obeyed-sound : (c : Command) (s t : State) (said : Said) → Sound s → Obeyed c s t said → Sound t
 obeyed-sound c s t said f e = subst SoundAt (ap (λ (k : Told). k .stand) e) (commanded-sound c s f)
 
--- the number that a check finds on a sound state is the call's
-module _ {s : State} (f : Sound s) where
-  pub line-number : (i : ℕ) (v : Bool) → firstOf (grounds (line i v) s) ≡ firstOf (lineGrounds true (s .steps) (s .shape .sources) i)
-  unfolding grounds notSound noStepLeft noSuchSource
-  line-number i v = ap (λ (t : Bool). firstOf (lineGrounds t (s .steps) (s .shape .sources) i)) (sound-test s f)
+-- what a check leaves of a step's reply and of what it changes, where it refuses and where it passes
+module _ {number : ℕ} where
+  pub reply-refused : (why : Refusal) (clock steps later : ℕ) (said : Said) → number ≡ numberOf why →
+      record { clock = clock; steps = steps; said = Refused (numberOf why) } ≡ stepReply number clock steps later said
+  unfolding stepReply
+  reply-refused why clock steps later said e =
+      (λ i. record { clock = clock; steps = steps; said = Refused (sym e i) }) ∙ sym (cond-not _ _ (ap (λ (k : ℕ). eqb k 0) e ∙ not-zero why))
 
-  pub advance-number : (n : ℕ) → firstOf (grounds (advance n) s) ≡ firstOf (advanceGrounds true (s .steps) (s .clock) n)
-  unfolding grounds notSound noStepLeft clockPast
-  advance-number n = ap (λ (t : Bool). firstOf (advanceGrounds t (s .steps) (s .clock) n)) (sound-test s f)
+  pub reply-passed : (clock steps later : ℕ) (said : Said) → number ≡ 0 →
+      record { clock = later; steps = steps + 1; said = said } ≡ stepReply number clock steps later said
+  unfolding stepReply
+  reply-passed clock steps later said e = sym (cond-so _ _ (ap (λ (k : ℕ). eqb k 0) e))
 
-  pub read-number : (off : ℕ) → firstOf (grounds (read off) s) ≡ firstOf (accessGrounds true (s .steps) off)
-  unfolding grounds notSound noStepLeft offsetAbove offsetUnaligned
-  read-number off = ap (λ (t : Bool). firstOf (accessGrounds t (s .steps) off)) (sound-test s f)
+  pub stays : {A : Type 0} (x y : A) (why : Refusal) → number ≡ numberOf why → x ≡ cond (eqb number 0) y x
+  stays x y why e = sym (cond-not _ _ (ap (λ (k : ℕ). eqb k 0) e ∙ not-zero why))
 
-  -- a write has the grounds of a read
-  pub write-number : (off v : ℕ) → firstOf (grounds (write off v) s) ≡ firstOf (accessGrounds true (s .steps) off)
-  unfolding grounds
-  write-number off v = read-number off
+  pub goes : {A : Type 0} (x y : A) → number ≡ 0 → y ≡ cond (eqb number 0) y x
+  goes x y e = sym (cond-so _ _ (ap (λ (k : ℕ). eqb k 0) e))
 
-  pub context-number : (c : ℕ) → firstOf (grounds (notification c) s) ≡ firstOf (contextGrounds true (s .shape .contexts) c)
-  unfolding grounds notSound noSuchContext
-  context-number c = ap (λ (t : Bool). firstOf (contextGrounds t (s .shape .contexts) c)) (sound-test s f)
-
--- a state at another clock and step count
-abbrev pub atTime : State → ℕ → ℕ → State
-atTime s clock steps = record {
+-- a state with all but its shape given
+abbrev pub filled : State → ℕ → ℕ → Settings → Requests → Counts → Buckets → State
+filled s clock steps g q k b = record {
   shape = s .shape;
   clock = clock;
   steps = steps;
-  settings = s .settings;
-  requests = s .requests;
-  counts = s .counts;
-  buckets = s .buckets;
+  settings = g;
+  requests = q;
+  counts = k;
+  buckets = b;
 }
 
--- a command is obeyed as its call answers
-module _ {s : State} (f : Sound s) (c : Command) (a : Call) (says : ℕ → List ℕ) (is : commanded c s ≡ goesOn says (respond a s)) where
-  pub did-refused : (r : Refusal) (n : ℕ) (d : Did) → firstOf (grounds a s) ≡ numberOf r → n ≡ numberOf r →
-      d ≡ record { clock = s .clock; steps = s .steps; said = Refused n } → Obeyed c s (atTime s (d .clock) (d .steps)) (d .said)
-  unfolding saidBytes
-  did-refused r n d e g h =
-      let back = sym h in
-      is ∙ told-refused says a s (numberOf r) e (not-zero r)
-      ∙ (λ i. record { stand = on (atTime s (back i .clock) (back i .steps)); prints = ap saidBytes (ap Refused (sym g) ∙ ap (λ (k : Did). k .said) back) i })
+-- a step is obeyed as its call answers: refused it changes nothing, accepted it is the call's effect and one step more
+module _ {s : State} (f : Sound s) {a : Call} {own : List Ground} (owns : Owns a s own) (c : Command) (says : ℕ → List ℕ)
+    (is : commanded c s ≡ goesOn says (respond a s)) where
+  number : firstOf (grounds a s) ≡ firstOf own
+  number = own-number owns (sound-test s f)
 
-  pub did-accepted : (v : ℕ) (t : State) (said : Said) → firstOf (grounds a s) ≡ 0 → getD (valuesOf a s) 0 0 ≡ v → after a s ≡ t →
-      says v ≡ saidBytes said → Obeyed c s t said
-  did-accepted v t said e u g h = is ∙ told-accepted says a s v t e u g ∙ (λ i. record { stand = on t; prints = h i })
+  step-obeyed : (later : ℕ) (g : Settings) (q : Requests) (k : Counts) (b : Buckets) (said : Said) (d : Reply) →
+      d ≡ stepReply (firstOf own) (s .clock) (s .steps) later said → says (getD (valuesOf a s) 0 0) ≡ saidBytes said →
+      after a s ≡ withSteps (effect a s) (s .steps + 1) →
+      (So (eqb (firstOf own) 0) → filled s later (s .steps) g q k b ≡ effect a s) →
+      (eqb (firstOf own) 0 ≡ false → filled s (s .clock) (s .steps) g q k b ≡ s) →
+      Obeyed c s (filled s (d .clock) (d .steps) g q k b) (d .said)
+  unfolding stepReply withSteps saidBytes
+  step-obeyed later g q k b said d h same steps goes stays = ⊎-elim accepted refused (dichotomy (eqb (firstOf own) 0))
+    where
+      accepted : So (eqb (firstOf own) 0) → Obeyed c s (filled s (d .clock) (d .steps) g q k b) (d .said)
+      accepted t =
+          let back = sym (h ∙ cond-so _ _ t) in
+          let there = steps ∙ ap (λ (x : State). withSteps x (s .steps + 1)) (sym (goes t)) in
+          is ∙ told-accepted says a s _ _ (number ∙ eqb-true (firstOf own) 0 t) refl there
+          ∙ (λ i. record { stand = on (filled s later (s .steps + 1) g q k b); prints = same i })
+          ∙ (λ i. record { stand = on (filled s (back i .clock) (back i .steps) g q k b); prints = saidBytes (back i .said) })
 
--- what an advance or a notification that is not refused may rely on
-no-first : (b : Bool) (k rest : ℕ) → cond b (suc k) rest ≡ 0 → (b ≡ false) × (rest ≡ 0)
-no-first true k rest e = absurd (suc-ne-zero k e)
-no-first false k rest e = (refl, e)
+      refused : eqb (firstOf own) 0 ≡ false → Obeyed c s (filled s (d .clock) (d .steps) g q k b) (d .said)
+      refused t =
+          let back = sym (h ∙ cond-not _ _ t) in
+          is ∙ told-refused says a s (firstOf own) number t
+          ∙ (λ i. record { stand = on (sym (stays t) i); prints = refusedLine (firstOf own) })
+          ∙ (λ i. record { stand = on (filled s (back i .clock) (back i .steps) g q k b); prints = saidBytes (back i .said) })
 
-pub advance-room : (steps clock ticks : ℕ) → firstOf (advanceGrounds true steps clock ticks) ≡ 0 → (steps < 4294967295) × (clock + ticks ≤ 4294967295)
-unfolding firstOf
-advance-room steps clock ticks e =
-    let step = no-first (leb 4294967295 steps) 2 _ e in
-    let past = no-first (ltb 4294967295 (clock + ticks)) 7 _ (step .1) in
-    (leb-false 4294967295 steps (step .0), ltb-false 4294967295 (clock + ticks) (past .0))
-
-pub context-within : (m c : ℕ) → firstOf (contextGrounds true m c) ≡ 0 → So (isContext m c)
-unfolding firstOf
-context-within m c e = not-false _ (no-first (not (isContext m c)) 6 0 e .0)
-
--- a line that is unreadable, an advance and a notification, as the code works them out from few of the numbers
+-- each command, by what its function says of the arrays that it changes
 module _ {s : State} (f : Sound s) where
+  abbrev clock : ℕ
+  clock = s .clock
+
+  abbrev steps : ℕ
+  steps = s .steps
+
+  pub line-obeyed : (i : ℕ) (v : Bool) (q : Requests) (d : Reply) →
+      let number = firstOf (lineGrounds steps (s .shape .sources) i) in
+      d ≡ stepReply number clock steps clock Nothing →
+      q ≡ cond (eqb number 0) (lineSet (getD (s .shape .kind) i 0) clock v i (s .requests)) (s .requests) →
+      Obeyed (Line i v) s (filled s (d .clock) (d .steps) (s .settings) q (s .counts) (s .buckets)) (d .said)
+  unfolding commanded silent saidBytes after effect isStep
+  line-obeyed i v q d h e = step-obeyed f (line-owns s i v) (Line i v) silent refl clock (s .settings) q (s .counts) (s .buckets) Nothing d h refl refl
+      (λ t. ap (withWritten s (s .settings)) (e ∙ cond-so _ _ t) ∙ line-whole s i v)
+      (λ t. ap (withWritten s (s .settings)) (e ∙ cond-not _ _ t))
+
+  pub advance-obeyed : (ticks : ℕ) (d : Reply) → d ≡ stepReply (firstOf (advanceGrounds steps clock ticks)) clock steps (clock + ticks) Nothing →
+      Obeyed (Advance ticks) s (filled s (d .clock) (d .steps) (s .settings) (s .requests) (s .counts) (s .buckets)) (d .said)
+  unfolding commanded silent saidBytes after effect isStep advanced withClock
+  advance-obeyed ticks d h =
+      step-obeyed f (advance-owns s ticks) (Advance ticks) silent refl (clock + ticks) (s .settings) (s .requests) (s .counts) (s .buckets) Nothing d h
+      refl refl (λ _. refl) (λ _. refl)
+
+  pub read-obeyed : (off : ℕ) (stage start : List ℕ) (counts : Counts) (buckets : Buckets) (d : Reply) →
+      let n = s .shape .sources in
+      let at = decode n (s .shape .contexts) off in
+      let number = firstOf (accessGrounds steps off) in
+      let g = s .settings in
+      d ≡ stepReply number clock steps clock (Value 82 (readIn n (s .requests .stage) (g .priority) (g .enable) (g .threshold) at)) →
+      Claimed clock (cond (eqb number 0) (claimedIn n (s .requests .stage) (g .priority) (g .enable) at) 0) (s .requests .stage) (s .requests .start)
+      stage start (s .counts) counts (s .buckets) buckets →
+      Obeyed (Read off) s
+      (filled s (d .clock) (d .steps) g (requestsOf stage (s .requests .line) (s .requests .extra) start) counts buckets) (d .said)
+  unfolding commanded saidBytes valuesOf after effect isStep
+  read-obeyed off stage start counts buckets d h left =
+      let at = decode (s .shape .sources) (s .shape .contexts) off in
+      let Left : ℕ → Type 0 = λ w. Claimed clock w (s .requests .stage) (s .requests .start) stage start (s .counts) counts (s .buckets) buckets in
+      step-obeyed f (read-owns s off) (Read off) (valueLine 82) refl clock (s .settings)
+      (requestsOf stage (s .requests .line) (s .requests .extra) start) counts buckets _ d h (ap (valueLine 82) (sym (read-value s at))) refl
+      (λ t. read-whole s stage start counts buckets at (subst Left (cond-so _ _ t) left))
+      (λ t. untouched s stage start counts buckets (subst Left (cond-not _ _ t) left))
+
+  pub write-obeyed : (off v : ℕ) (g : Settings) (q : Requests) (d : Reply) →
+      let n = s .shape .sources in
+      let at = decode n (s .shape .contexts) off in
+      let number = firstOf (accessGrounds steps off) in
+      d ≡ stepReply number clock steps clock Nothing →
+      g ≡ cond (eqb number 0) (settingsWritten n (s .shape .bits) (s .settings) at v) (s .settings) →
+      q ≡ cond (eqb number 0) (requestsWritten n (s .settings .enable) (s .shape .kind) clock (s .requests) at v) (s .requests) →
+      Obeyed (Write off v) s (filled s (d .clock) (d .steps) g q (s .counts) (s .buckets)) (d .said)
+  unfolding commanded silent saidBytes after effect isStep
+  write-obeyed off v g q d h eg eq =
+      let at = decode (s .shape .sources) (s .shape .contexts) off in
+      step-obeyed f (write-owns s off v) (Write off v) silent refl clock g q (s .counts) (s .buckets) Nothing d h refl refl
+      (λ t. (λ i. withWritten s ((eg ∙ cond-so _ _ t) i) ((eq ∙ cond-so _ _ t) i)) ∙ write-whole s at v)
+      (λ t. λ i. withWritten s ((eg ∙ cond-not _ _ t) i) ((eq ∙ cond-not _ _ t) i))
+
+  pub notify-obeyed : (c : ℕ) (d : Reply) →
+      let g = s .settings in
+      d ≡ record {
+        clock = clock;
+        steps = steps;
+        said = notifySaid (s .shape .sources) (s .shape .contexts) (s .requests .stage) (g .priority) (g .enable) (g .threshold) c;
+      } → Obeyed (Notify c) s (filled s (d .clock) (d .steps) g (s .requests) (s .counts) (s .buckets)) (d .said)
+  unfolding notifySaid commanded valuesOf after effect isStep saidBytes notified rouses pendingFor isPending request enabled enableWord priority threshold notifiedIn rousesIn pendingForIn enabledIn
+  notify-obeyed c d e =
+      let n : ℕ = firstOf (contextGrounds (s .shape .contexts) c) in
+      let own = own-number (notification-owns s c) (sound-test s f) in
+      subst (λ (k : Reply). Obeyed (Notify c) s (filled s (k .clock) (k .steps) (s .settings) (s .requests) (s .counts) (s .buckets)) (k .said)) (sym e)
+      (cond-elim (λ (k : Said). Obeyed (Notify c) s s k) (eqb n 0)
+      (λ t. told-accepted (valueLine 78) (notification c) s _ s (own ∙ eqb-true n 0 t) refl refl)
+      (λ t. told-refused (valueLine 78) (notification c) s n own t))
+
+  -- a line that is unreadable
+  pub unreadable-obeyed : (d : Reply) → d ≡ record { clock = clock; steps = steps; said = Refused (numberOf refusal.Unreadable) } →
+      _≡_ {A = Told} (record { stand = on s; prints = refusedLine (numberOf refusal.Unreadable) })
+      (record { stand = on (filled s (d .clock) (d .steps) (s .settings) (s .requests) (s .counts) (s .buckets)); prints = saidBytes (d .said) })
+  unfolding saidBytes
+  unreadable-obeyed d e =
+      let back = sym e in
+      λ i. record {
+        stand = on (filled s (back i .clock) (back i .steps) (s .settings) (s .requests) (s .counts) (s .buckets));
+        prints = saidBytes (back i .said);
+      }
+
   pub same-command : {c k : Command} {told : Told} → c ≡ k → commanded k s ≡ told → commanded c s ≡ told
   same-command e h = ap (λ (x : Command). commanded x s) e ∙ h
-
-  pub unreadable-did : (d : Did) → d ≡ record { clock = s .clock; steps = s .steps; said = Refused 11 } →
-      _≡_ {A = Told} (record { stand = on s; prints = refusedLine 11 }) (record { stand = on (atTime s (d .clock) (d .steps)); prints = saidBytes (d .said) })
-  unfolding saidBytes
-  unreadable-did d e =
-      let back = sym e in
-      λ i. record { stand = on (atTime s (back i .clock) (back i .steps)); prints = saidBytes (back i .said) }
-
-  pub advance-did : (ticks : ℕ) (d : Did) → d ≡ advanceDid (s .clock) (s .steps) ticks → Obeyed (Advance ticks) s (atTime s (d .clock) (d .steps)) (d .said)
-  unfolding advanceDid commanded valuesOf after effect isStep withSteps advanced withClock silent saidBytes
-  advance-did ticks d e =
-      let number : ℕ = firstOf (advanceGrounds true (s .steps) (s .clock) ticks) in
-      subst (λ (k : Did). Obeyed (Advance ticks) s (atTime s (k .clock) (k .steps)) (k .said)) (sym e)
-      (cond-elim (λ (k : Did). Obeyed (Advance ticks) s (atTime s (k .clock) (k .steps)) (k .said)) (eqb number 0)
-      (λ t. told-accepted silent (advance ticks) s 0 _ (advance-number f ticks ∙ eqb-true number 0 t) refl refl)
-      (λ t. told-refused silent (advance ticks) s number (advance-number f ticks) t))
-
-  pub notify-did : (c : ℕ) (d : Did) →
-      d ≡ record {
-        clock = s .clock;
-        steps = s .steps;
-        said = notifySaid (s .shape .sources) (s .shape .contexts) (s .requests .stage) (s .settings .priority) (s .settings .enable) (s .settings .threshold) c;
-      } → Obeyed (Notify c) s (atTime s (d .clock) (d .steps)) (d .said)
-  unfolding notifySaid commanded valuesOf after effect isStep saidBytes notified rouses pendingFor isPending request enabled enableWord priority threshold notifiedIn rousesIn pendingForIn enabledIn
-  notify-did c d e =
-      let number : ℕ = firstOf (contextGrounds true (s .shape .contexts) c) in
-      subst (λ (k : Did). Obeyed (Notify c) s (atTime s (k .clock) (k .steps)) (k .said)) (sym e)
-      (cond-elim (λ (k : Said). Obeyed (Notify c) s s k) (eqb number 0)
-      (λ t. told-accepted (valueLine 78) (notification c) s _ s (context-number f c ∙ eqb-true number 0 t) refl refl)
-      (λ t. told-refused (valueLine 78) (notification c) s number (context-number f c) t))

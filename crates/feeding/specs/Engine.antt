@@ -1,11 +1,13 @@
--- What a command of a script does to the arrays that hold a sound state, in the words of the replay's definition.
+-- What a command of a script does to the arrays that hold a sound state, in the words of the replay's definition; and what a piece of
+-- a script comes to.
 -- Assumes nothing.
 use mathlib.Core.Path.{_≡_}
-use mathlib.Core.Bool.{true, cond}
+use mathlib.Core.Bool.{cond}
 use mathlib.Core.List.{List, []}
 use Prim.Native.Nat.{ℕ, _+_, _*_, _≤_}
 use lib.Dec.{ltb, eqb}
-use lib.ListN.{length, getD, take, drop}
+use lib.ListN.{length, getD}
+use Rattle.limits.specs.Limits.{lineRoom}
 use Rattle.model.specs.declared.State.{State}
 use Rattle.model.specs.Refusals.{firstOf}
 use Rattle.model.specs.Sound.{Sound}
@@ -14,49 +16,45 @@ use Rattle.replaying.specs.declared.Said.{Said}
 use Rattle.replaying.specs.declared.Said.the-variants.{Nothing, Value, Refused}
 use Rattle.replaying.specs.Replay.{on, commanded, Replay, fedAll}
 use Rattle.replaying.specs.Text.{saidBytes, Written}
-use Rattle.replaying.specs.Pieces.{lineLength, lineFeeds, begunAt, kept}
-use Rattle.plic.specs.declared.obey.Did.{Did}
-use Rattle.plic.specs.declared.lines.Went.{Went}
-use Rattle.plic.specs.declared.feeding.Part.{Part}
-use Rattle.plic.specs.Leaves.{notifiedIn}
-use Rattle.plic.specs.Checks.{advanceGrounds, contextGrounds}
+use Rattle.replaying.specs.Pieces.{lineFeeds, begunAt, paused}
+use Rattle.leaves.specs.Leaves.{notifiedIn}
+use Rattle.leaves.specs.Checks.{contextGrounds}
+use Rattle.feeding.specs.declared.obey.Reply.{Reply}
+use Rattle.feeding.specs.declared.progress.Progress.{Progress}
 
 -- a command takes state s to state t and says so much
 abbrev pub Obeyed : Command → State → State → Said → Type 0
 Obeyed c s t said = commanded c s ≡ record { stand = on t; prints = saidBytes said }
 
--- an advance and a notification concern few of the numbers
-unfoldable pub advanceDid : ℕ → ℕ → ℕ → Did
-advanceDid clock steps ticks =
-    cond (eqb (firstOf (advanceGrounds true steps clock ticks)) 0)
-    (record { clock = clock + ticks; steps = steps + 1; said = Nothing })
-    (record { clock = clock; steps = steps; said = Refused (firstOf (advanceGrounds true steps clock ticks)) })
+-- a step beside the arrays: refused under a number, or one step more, at a later clock
+unfoldable pub stepReply : ℕ → ℕ → ℕ → ℕ → Said → Reply
+stepReply number clock steps later said =
+    cond (eqb number 0) (record { clock = later; steps = steps + 1; said = said })
+    (record { clock = clock; steps = steps; said = Refused number })
 
+-- what a notification says
 unfoldable pub notifySaid : ℕ → ℕ → List ℕ → List ℕ → List ℕ → List ℕ → ℕ → Said
 notifySaid n m stage prio enable threshold c =
-    cond (eqb (firstOf (contextGrounds true m c)) 0)
+    cond (eqb (firstOf (contextGrounds m c)) 0)
     (Value 78 (cond (notifiedIn n stage prio enable (getD threshold c 0) c) 1 0))
-    (Refused (firstOf (contextGrounds true m c)))
+    (Refused (firstOf (contextGrounds m c)))
 
 -- a replay on a board, where no line has begun and nothing is printed yet
 abbrev pub boarded : State → Replay
 boarded s = begunAt (on s) []
 
--- a line over 255 bytes is unreadable as an empty one is, which may stand for it
+-- a line that is too long is unreadable as an empty one is, which may stand for it
 unfoldable pub standIn : List ℕ → List ℕ
-standIn l = cond (ltb 255 (length l)) [] l
-
--- all the lines that end in an input have been fed, and what they print stands in the output from a place on
-pub record Gone (s : State) (input out out′ : List ℕ) (from : ℕ) (w : Went) : Type 0 where
-  pub within : w .at ≤ length input
-  pub rest : lineLength (drop (w .at) input) ≡ length (drop (w .at) input)
-  pub stands : fedAll (boarded s) (take (w .at) input) .stand ≡ on (w .state)
-  pub fresh : fedAll (boarded s) (take (w .at) input) .begun ≡ []
-  pub prints : Written out out′ from (w .written) (fedAll (boarded s) (take (w .at) input) .printed)
-  pub room : w .written ≤ from + 20 * lineFeeds (take (w .at) input)
-  pub sound : Sound (w .state)
+standIn l = cond (ltb lineRoom (length l)) [] l
 
 -- a piece has been fed: the replay after it is held, and what it prints stands in the output from a place on
-pub record Feeds (r : Replay) (input out out′ : List ℕ) (from : ℕ) (part : Part) : Type 0 where
-  pub holds : part .replay ≡ kept (fedAll r input .stand) (fedAll r input .begun)
-  pub prints : Written out out′ from (part .written) (fedAll r input .printed)
+pub record Feeds (r : Replay) (input out out′ : List ℕ) (from : ℕ) (p : Progress) : Type 0 where
+  pub holds : p .replay ≡ paused (fedAll r input .stand) (fedAll r input .begun)
+  pub prints : Written out out′ from (p .written) (fedAll r input .printed)
+
+-- a piece has been fed on a board: it is still on one, which is sound, and an answer takes at most 20 bytes
+pub record FeedsBoard (s : State) (input out out′ : List ℕ) (from : ℕ) (p : Progress) : Type 0 where
+  pub feeds : Feeds (boarded s) input out out′ from p
+  pub stands : fedAll (boarded s) input .stand ≡ on (p .replay .state)
+  pub sound : Sound (p .replay .state)
+  pub room : p .written ≤ from + 20 * lineFeeds input

@@ -1,31 +1,27 @@
-// The lines that end in a piece of a script, on a board. The state is in local arrays for as long as the piece lasts, and sound by
-// proof: no command checks it again or copies it.
+// The lines of a piece of a script, on a board. The state is in local arrays for as long as the piece lasts, and sound by proof: no
+// command checks it again or copies it.
 use crate::obey::obey;
+use crate::progress::Progress;
+use crate::progress::standing;
 use model::Buckets;
 use model::Counts;
 use model::Requests;
 use model::Settings;
 use model::Shape;
 use model::State;
+use replaying::Place;
 ghost use mathlib.Core.Path.{_≡_};
 ghost use Prim.Native.Nat.{ℕ, _+_, _*_, _≤_};
 ghost use lib.ListN.{length};
 ghost use Rattle.model.specs.Sound.{Sound};
 ghost use Rattle.replaying.specs.Pieces.{lineFeeds};
-ghost use Rattle.plic.specs.Engine.{Gone};
+ghost use Rattle.feeding.specs.Engine.{FeedsBoard};
 
-// How far a piece of a script went: the state, the place in the input after its last line, and the place in the output after what
-// was printed.
-pub(crate) struct Went {
-    pub(crate) state: State,
-    pub(crate) at: usize,
-    pub(crate) written: usize,
-}
-
-// All the lines that end in the input; what they print is put into the output from a place on.
-pub(crate) fn lines_on(state: State, input: &[u8], output: &mut [u8], from: usize) -> Went
+// A piece on a board, where no line has begun: all the lines that end in it, whose answers are put into the output from a place on,
+// and the line that begins.
+pub(crate) fn feed_lines(state: State, input: &[u8], output: &mut [u8], from: usize) -> Progress
     requires { ⌜ Sound state × (from + 20 * lineFeeds (now input) ≤ length (now output)) ⌝ }
-    ensures { λ r. ⌜ Gone state (now (input .entry)) (now (output .entry)) (now (output .exit)) from r ⌝ }
+    ensures { λ r. ⌜ FeedsBoard state (now (input .entry)) (now (output .entry)) (now (output .exit)) from r ⌝ }
 {
     let n = state.shape.sources;
     let m = state.shape.contexts;
@@ -48,7 +44,7 @@ pub(crate) fn lines_on(state: State, input: &[u8], output: &mut [u8], from: usiz
     let mut written = from;
     let mut end = replaying::line_end(input, 0);
     while end < input.len() {
-        let did = obey(
+        let reply = obey(
             commands::parse(&input[at..end]),
             n,
             m,
@@ -68,9 +64,9 @@ pub(crate) fn lines_on(state: State, input: &[u8], output: &mut [u8], from: usiz
             &mut bucket_claims,
             &mut bucket_ticks,
         );
-        clock = did.clock;
-        steps = did.steps;
-        let said = did.said;
+        clock = reply.clock;
+        steps = reply.steps;
+        let said = reply.said;
         written = replaying::put_said(said, output, written);
         at = end + 1;
         end = replaying::line_end(input, at);
@@ -109,9 +105,5 @@ pub(crate) fn lines_on(state: State, input: &[u8], output: &mut [u8], from: usiz
         counts: counts,
         buckets: buckets,
     };
-    Went {
-        state: next,
-        at: at,
-        written: written,
-    }
+    standing(Place::On, next, &input[..0], &input[at..], written)
 }

@@ -1,91 +1,77 @@
 // A command of a script on a sound state, in place: its refusals without a second check of soundness, its step, and what it prints.
-use crate::arbiter::is_notified;
-use crate::board::line_on;
-use crate::board::read_on;
-use crate::board::write_on;
-use crate::checks::Check;
-use crate::checks::access_check;
-use crate::checks::advance_check;
-use crate::checks::context_check;
-use crate::checks::line_check;
-use crate::checks::number_of;
 use commands::Command;
+use leaves::arbiter::is_notified;
+use leaves::checks::Check;
+use leaves::checks::access_check;
+use leaves::checks::advance_check;
+use leaves::checks::context_check;
+use leaves::checks::line_check;
+use leaves::checks::number_of;
+use leaves::registers::register_at;
+use limits::BUCKET_ROOM;
+use limits::CONTEXT_ROOM;
+use limits::ENABLE_ROOM;
+use limits::SOURCE_ROOM;
+use model::Refusal;
 use replaying::Said;
+use steps::access::read;
+use steps::access::write;
+use steps::requests::set_line;
 ghost use mathlib.Core.Path.{_≡_};
-ghost use Prim.Native.Nat.{ℕ, _≤_, _<_};
+ghost use mathlib.Core.Bool.{cond};
+ghost use Prim.Native.Nat.{ℕ, _+_, _≤_, _<_};
+ghost use lib.Dec.{eqb};
+ghost use lib.ListN.{getD};
+ghost use Rattle.limits.specs.Limits.{lastSource, contextRoom, mostBits};
+ghost use Rattle.model.specs.declared.State.{State};
+ghost use Rattle.model.specs.Refusals.{numberOf, firstOf};
+ghost use Rattle.model.specs.Registers.{decode};
 ghost use Rattle.model.specs.Sound.{Sound};
-ghost use Rattle.plic.specs.Arrays.{requestsOf, countsOf, bucketsOf, stateOf};
-ghost use Rattle.plic.specs.Engine.{Obeyed, advanceDid, notifySaid};
+ghost use Rattle.leaves.specs.Checks.{lineGrounds, advanceGrounds, accessGrounds};
+ghost use Rattle.steps.specs.Arrays.{settingsOf, requestsOf, countsOf, bucketsOf, stateOf, lineSet, readIn, claimedIn, settingsWritten, requestsWritten, Bookable, Claimed};
+ghost use Rattle.feeding.specs.Engine.{stepReply, notifySaid, Obeyed};
 
 // What a command does beside the arrays: the clock and the step count after it, and what it prints.
-pub(crate) struct Did {
+pub(crate) struct Reply {
     pub(crate) clock: u32,
     pub(crate) steps: u32,
     pub(crate) said: Said,
 }
 
 // A refused command leaves the state as it was.
-fn refused(clock: u32, steps: u32, number: u32) -> Did
-    ensures { λ r. ⌜ r ≡ record { clock = clock; steps = steps; said = Said.Refused number } ⌝ }
+fn refused(clock: u32, steps: u32, why: Refusal) -> Reply
+    ensures { λ r. ⌜ r ≡ record { clock = clock; steps = steps; said = Said.Refused (numberOf why) } ⌝ }
 {
-    Did {
+    Reply {
         clock: clock,
         steps: steps,
-        said: Said::Refused(number),
+        said: Said::Refused(number_of(why)),
     }
 }
 
 // `L s v`
-fn obey_line<'a>(
+fn obey_line(
     n: u32,
-    m: u32,
-    b: u32,
     clock: u32,
     steps: u32,
-    kind: &'a [u8; 128],
-    priority: &'a [u8; 128],
-    enable: &'a [u32; 32],
-    threshold: &'a [u8; 8],
-    stage: &mut [u8; 128],
-    line: &mut [bool; 128],
-    extra: &mut [u8; 128],
-    start: &mut [u32; 128],
-    claims: &'a [u32; 128],
-    waited: &'a [u32; 128],
-    bucket_claims: &'a [u32; 33],
-    bucket_ticks: &'a [u64; 33],
+    kind: &[u8; SOURCE_ROOM],
     i: u32,
     level: bool,
-) -> Did
-    requires { ⌜ Sound (stateOf n m b (now kind) clock steps (now priority) (now enable) (now threshold) (requestsOf (now stage) (now line) (now extra) (now start)) (countsOf (now claims) (now waited)) (bucketsOf (now «bucket_claims») (now «bucket_ticks»))) ⌝ }
-    ensures { λ r. ⌜ Obeyed (Command.Line i level) (stateOf n m b (now (kind .entry)) clock steps (now (priority .entry)) (now (enable .entry)) (now (threshold .entry)) (requestsOf (now (stage .entry)) (now (line .entry)) (now (extra .entry)) (now (start .entry))) (countsOf (now (claims .entry)) (now (waited .entry))) (bucketsOf (now («bucket_claims» .entry)) (now («bucket_ticks» .entry)))) (stateOf n m b (now (kind .entry)) (r .clock) (r .steps) (now (priority .entry)) (now (enable .entry)) (now (threshold .entry)) (requestsOf (now (stage .exit)) (now (line .exit)) (now (extra .exit)) (now (start .exit))) (countsOf (now (claims .entry)) (now (waited .entry))) (bucketsOf (now («bucket_claims» .entry)) (now («bucket_ticks» .entry)))) (r .said) ⌝ }
+    stage: &mut [u8; SOURCE_ROOM],
+    line: &mut [bool; SOURCE_ROOM],
+    extra: &mut [u8; SOURCE_ROOM],
+    start: &mut [u32; SOURCE_ROOM],
+) -> Reply
+    requires { ⌜ n ≤ lastSource ⌝ }
+    ensures { λ r. ⌜ (r ≡ stepReply (firstOf (lineGrounds steps n i)) clock steps clock Said.Nothing) × (requestsOf (now (stage .exit)) (now (line .exit)) (now (extra .exit)) (now (start .exit)) ≡ cond (eqb (firstOf (lineGrounds steps n i)) 0) (lineSet (getD (now (kind .entry)) i 0) clock level i (requestsOf (now (stage .entry)) (now (line .entry)) (now (extra .entry)) (now (start .entry)))) (requestsOf (now (stage .entry)) (now (line .entry)) (now (extra .entry)) (now (start .entry)))) ⌝ }
 {
-    let check = line_check(true, steps, n, i);
+    let check = line_check(steps, n, i);
     match check {
-        Check::Refused(why) => refused(clock, steps, number_of(why)),
+        Check::Refused(why) => refused(clock, steps, why),
         Check::Passed => {
-            line_on(
-                n,
-                m,
-                b,
-                clock,
-                steps,
-                kind,
-                priority,
-                enable,
-                threshold,
-                stage,
-                line,
-                extra,
-                start,
-                claims,
-                waited,
-                bucket_claims,
-                bucket_ticks,
-                i,
-                level,
-            );
-            Did {
+            let s = i as usize;
+            set_line(kind[s], clock, s, level, stage, line, extra, start);
+            Reply {
                 clock: clock,
                 steps: steps + 1,
                 said: Said::Nothing,
@@ -95,13 +81,13 @@ fn obey_line<'a>(
 }
 
 // `T n`
-fn obey_advance(clock: u32, steps: u32, ticks: u32) -> Did
-    ensures { λ r. ⌜ r ≡ advanceDid clock steps ticks ⌝ }
+fn obey_advance(clock: u32, steps: u32, ticks: u32) -> Reply
+    ensures { λ r. ⌜ r ≡ stepReply (firstOf (advanceGrounds steps clock ticks)) clock steps (clock + ticks) Said.Nothing ⌝ }
 {
-    let check = advance_check(true, steps, clock, ticks);
+    let check = advance_check(steps, clock, ticks);
     match check {
-        Check::Refused(why) => refused(clock, steps, number_of(why)),
-        Check::Passed => Did {
+        Check::Refused(why) => refused(clock, steps, why),
+        Check::Passed => Reply {
             clock: clock + ticks,
             steps: steps + 1,
             said: Said::Nothing,
@@ -113,51 +99,41 @@ fn obey_advance(clock: u32, steps: u32, ticks: u32) -> Did
 fn obey_read<'a>(
     n: u32,
     m: u32,
-    b: u32,
     clock: u32,
     steps: u32,
-    kind: &'a [u8; 128],
-    priority: &'a [u8; 128],
-    enable: &'a [u32; 32],
-    threshold: &'a [u8; 8],
-    stage: &mut [u8; 128],
-    line: &'a [bool; 128],
-    extra: &'a [u8; 128],
-    start: &mut [u32; 128],
-    claims: &mut [u32; 128],
-    waited: &mut [u32; 128],
-    bucket_claims: &mut [u32; 33],
-    bucket_ticks: &mut [u64; 33],
     offset: u32,
-) -> Did
-    requires { ⌜ Sound (stateOf n m b (now kind) clock steps (now priority) (now enable) (now threshold) (requestsOf (now stage) (now line) (now extra) (now start)) (countsOf (now claims) (now waited)) (bucketsOf (now «bucket_claims») (now «bucket_ticks»))) ⌝ }
-    ensures { λ r. ⌜ Obeyed (Command.Read offset) (stateOf n m b (now (kind .entry)) clock steps (now (priority .entry)) (now (enable .entry)) (now (threshold .entry)) (requestsOf (now (stage .entry)) (now (line .entry)) (now (extra .entry)) (now (start .entry))) (countsOf (now (claims .entry)) (now (waited .entry))) (bucketsOf (now («bucket_claims» .entry)) (now («bucket_ticks» .entry)))) (stateOf n m b (now (kind .entry)) (r .clock) (r .steps) (now (priority .entry)) (now (enable .entry)) (now (threshold .entry)) (requestsOf (now (stage .exit)) (now (line .entry)) (now (extra .entry)) (now (start .exit))) (countsOf (now (claims .exit)) (now (waited .exit))) (bucketsOf (now («bucket_claims» .exit)) (now («bucket_ticks» .exit)))) (r .said) ⌝ }
+    priority: &'a [u8; SOURCE_ROOM],
+    enable: &'a [u32; ENABLE_ROOM],
+    threshold: &'a [u8; CONTEXT_ROOM],
+    stage: &mut [u8; SOURCE_ROOM],
+    start: &mut [u32; SOURCE_ROOM],
+    claims: &mut [u32; SOURCE_ROOM],
+    waited: &mut [u32; SOURCE_ROOM],
+    bucket_claims: &mut [u32; BUCKET_ROOM],
+    bucket_ticks: &mut [u64; BUCKET_ROOM],
+) -> Reply
+    requires { ⌜ (n ≤ lastSource) × (m ≤ contextRoom) × (steps < 4294967295 → Bookable clock (now stage) (now start) (now claims) (now waited) (now «bucket_claims») (now «bucket_ticks»)) ⌝ }
+    ensures { λ r. ⌜ (r ≡ stepReply (firstOf (accessGrounds steps offset)) clock steps clock (Said.Value 82 (readIn n (now (stage .entry)) (now (priority .entry)) (now (enable .entry)) (now (threshold .entry)) (decode n m offset)))) × Claimed clock (cond (eqb (firstOf (accessGrounds steps offset)) 0) (claimedIn n (now (stage .entry)) (now (priority .entry)) (now (enable .entry)) (decode n m offset)) 0) (now (stage .entry)) (now (start .entry)) (now (stage .exit)) (now (start .exit)) (countsOf (now (claims .entry)) (now (waited .entry))) (countsOf (now (claims .exit)) (now (waited .exit))) (bucketsOf (now («bucket_claims» .entry)) (now («bucket_ticks» .entry))) (bucketsOf (now («bucket_claims» .exit)) (now («bucket_ticks» .exit))) ⌝ }
 {
-    let check = access_check(true, steps, offset);
+    let check = access_check(steps, offset);
     match check {
-        Check::Refused(why) => refused(clock, steps, number_of(why)),
+        Check::Refused(why) => refused(clock, steps, why),
         Check::Passed => {
-            let value = read_on(
+            let value = read(
+                register_at(n, m, offset),
                 n,
-                m,
-                b,
                 clock,
-                steps,
-                kind,
                 priority,
                 enable,
                 threshold,
                 stage,
-                line,
-                extra,
                 start,
                 claims,
                 waited,
                 bucket_claims,
                 bucket_ticks,
-                offset,
             );
-            Did {
+            Reply {
                 clock: clock,
                 steps: steps + 1,
                 said: Said::Value(b'R', value),
@@ -173,34 +149,30 @@ fn obey_write<'a>(
     b: u32,
     clock: u32,
     steps: u32,
-    kind: &'a [u8; 128],
-    priority: &mut [u8; 128],
-    enable: &mut [u32; 32],
-    threshold: &mut [u8; 8],
-    stage: &mut [u8; 128],
-    line: &'a [bool; 128],
-    extra: &mut [u8; 128],
-    start: &mut [u32; 128],
-    claims: &'a [u32; 128],
-    waited: &'a [u32; 128],
-    bucket_claims: &'a [u32; 33],
-    bucket_ticks: &'a [u64; 33],
     offset: u32,
     v: u32,
-) -> Did
-    requires { ⌜ Sound (stateOf n m b (now kind) clock steps (now priority) (now enable) (now threshold) (requestsOf (now stage) (now line) (now extra) (now start)) (countsOf (now claims) (now waited)) (bucketsOf (now «bucket_claims») (now «bucket_ticks»))) ⌝ }
-    ensures { λ r. ⌜ Obeyed (Command.Write offset v) (stateOf n m b (now (kind .entry)) clock steps (now (priority .entry)) (now (enable .entry)) (now (threshold .entry)) (requestsOf (now (stage .entry)) (now (line .entry)) (now (extra .entry)) (now (start .entry))) (countsOf (now (claims .entry)) (now (waited .entry))) (bucketsOf (now («bucket_claims» .entry)) (now («bucket_ticks» .entry)))) (stateOf n m b (now (kind .entry)) (r .clock) (r .steps) (now (priority .exit)) (now (enable .exit)) (now (threshold .exit)) (requestsOf (now (stage .exit)) (now (line .entry)) (now (extra .exit)) (now (start .exit))) (countsOf (now (claims .entry)) (now (waited .entry))) (bucketsOf (now («bucket_claims» .entry)) (now («bucket_ticks» .entry)))) (r .said) ⌝ }
+    kind: &'a [u8; SOURCE_ROOM],
+    priority: &mut [u8; SOURCE_ROOM],
+    enable: &mut [u32; ENABLE_ROOM],
+    threshold: &mut [u8; CONTEXT_ROOM],
+    stage: &mut [u8; SOURCE_ROOM],
+    line: &'a [bool; SOURCE_ROOM],
+    extra: &mut [u8; SOURCE_ROOM],
+    start: &mut [u32; SOURCE_ROOM],
+) -> Reply
+    requires { ⌜ (n ≤ lastSource) × (m ≤ contextRoom) × (b ≤ mostBits) ⌝ }
+    ensures { λ r. ⌜ (r ≡ stepReply (firstOf (accessGrounds steps offset)) clock steps clock Said.Nothing) × (settingsOf (now (priority .exit)) (now (enable .exit)) (now (threshold .exit)) ≡ cond (eqb (firstOf (accessGrounds steps offset)) 0) (settingsWritten n b (settingsOf (now (priority .entry)) (now (enable .entry)) (now (threshold .entry))) (decode n m offset) v) (settingsOf (now (priority .entry)) (now (enable .entry)) (now (threshold .entry)))) × (requestsOf (now (stage .exit)) (now (line .entry)) (now (extra .exit)) (now (start .exit)) ≡ cond (eqb (firstOf (accessGrounds steps offset)) 0) (requestsWritten n (now (enable .entry)) (now (kind .entry)) clock (requestsOf (now (stage .entry)) (now (line .entry)) (now (extra .entry)) (now (start .entry))) (decode n m offset) v) (requestsOf (now (stage .entry)) (now (line .entry)) (now (extra .entry)) (now (start .entry)))) ⌝ }
 {
-    let check = access_check(true, steps, offset);
+    let check = access_check(steps, offset);
     match check {
-        Check::Refused(why) => refused(clock, steps, number_of(why)),
+        Check::Refused(why) => refused(clock, steps, why),
         Check::Passed => {
-            write_on(
+            write(
+                register_at(n, m, offset),
+                v,
                 n,
-                m,
                 b,
                 clock,
-                steps,
                 kind,
                 priority,
                 enable,
@@ -209,14 +181,8 @@ fn obey_write<'a>(
                 line,
                 extra,
                 start,
-                claims,
-                waited,
-                bucket_claims,
-                bucket_ticks,
-                offset,
-                v,
             );
-            Did {
+            Reply {
                 clock: clock,
                 steps: steps + 1,
                 said: Said::Nothing,
@@ -231,18 +197,18 @@ fn obey_notify<'a>(
     m: u32,
     clock: u32,
     steps: u32,
-    priority: &'a [u8; 128],
-    enable: &'a [u32; 32],
-    threshold: &'a [u8; 8],
-    stage: &'a [u8; 128],
+    priority: &'a [u8; SOURCE_ROOM],
+    enable: &'a [u32; ENABLE_ROOM],
+    threshold: &'a [u8; CONTEXT_ROOM],
+    stage: &'a [u8; SOURCE_ROOM],
     context: u32,
-) -> Did
-    requires { ⌜ (n < 128) × (m ≤ 8) ⌝ }
+) -> Reply
+    requires { ⌜ (n ≤ lastSource) × (m ≤ contextRoom) ⌝ }
     ensures { λ r. ⌜ r ≡ record { clock = clock; steps = steps; said = notifySaid n m (now (stage .entry)) (now (priority .entry)) (now (enable .entry)) (now (threshold .entry)) context } ⌝ }
 {
-    let check = context_check(true, m, context);
+    let check = context_check(m, context);
     match check {
-        Check::Refused(why) => refused(clock, steps, number_of(why)),
+        Check::Refused(why) => refused(clock, steps, why),
         Check::Passed => {
             let c = context as usize;
             let limit = threshold[c];
@@ -251,7 +217,7 @@ fn obey_notify<'a>(
             } else {
                 0
             };
-            Did {
+            Reply {
                 clock: clock,
                 steps: steps,
                 said: Said::Value(b'N', value),
@@ -260,106 +226,61 @@ fn obey_notify<'a>(
     }
 }
 
-// A command that is not the first line: a later `P` is unreadable.
-pub(crate) fn obey<'a>(
+// A command that is not the first line: a later `P` is unreadable. It joins all commands, so it is lent the whole state.
+pub(crate) fn obey(
     command: Command,
     n: u32,
     m: u32,
     b: u32,
     clock: u32,
     steps: u32,
-    kind: &'a [u8; 128],
-    priority: &mut [u8; 128],
-    enable: &mut [u32; 32],
-    threshold: &mut [u8; 8],
-    stage: &mut [u8; 128],
-    line: &mut [bool; 128],
-    extra: &mut [u8; 128],
-    start: &mut [u32; 128],
-    claims: &mut [u32; 128],
-    waited: &mut [u32; 128],
-    bucket_claims: &mut [u32; 33],
-    bucket_ticks: &mut [u64; 33],
-) -> Did
-    requires { ⌜ Sound (stateOf n m b (now kind) clock steps (now priority) (now enable) (now threshold) (requestsOf (now stage) (now line) (now extra) (now start)) (countsOf (now claims) (now waited)) (bucketsOf (now «bucket_claims») (now «bucket_ticks»))) ⌝ }
-    ensures { λ r. ⌜ Obeyed command (stateOf n m b (now (kind .entry)) clock steps (now (priority .entry)) (now (enable .entry)) (now (threshold .entry)) (requestsOf (now (stage .entry)) (now (line .entry)) (now (extra .entry)) (now (start .entry))) (countsOf (now (claims .entry)) (now (waited .entry))) (bucketsOf (now («bucket_claims» .entry)) (now («bucket_ticks» .entry)))) (stateOf n m b (now (kind .entry)) (r .clock) (r .steps) (now (priority .exit)) (now (enable .exit)) (now (threshold .exit)) (requestsOf (now (stage .exit)) (now (line .exit)) (now (extra .exit)) (now (start .exit))) (countsOf (now (claims .exit)) (now (waited .exit))) (bucketsOf (now («bucket_claims» .exit)) (now («bucket_ticks» .exit)))) (r .said) ⌝ }
+    kind: &[u8; SOURCE_ROOM],
+    priority: &mut [u8; SOURCE_ROOM],
+    enable: &mut [u32; ENABLE_ROOM],
+    threshold: &mut [u8; CONTEXT_ROOM],
+    stage: &mut [u8; SOURCE_ROOM],
+    line: &mut [bool; SOURCE_ROOM],
+    extra: &mut [u8; SOURCE_ROOM],
+    start: &mut [u32; SOURCE_ROOM],
+    claims: &mut [u32; SOURCE_ROOM],
+    waited: &mut [u32; SOURCE_ROOM],
+    bucket_claims: &mut [u32; BUCKET_ROOM],
+    bucket_ticks: &mut [u64; BUCKET_ROOM],
+) -> Reply
+    ghost { State }
+    requires { λ s. ⌜ stateOf n m b (now kind) clock steps (settingsOf (now priority) (now enable) (now threshold)) (requestsOf (now stage) (now line) (now extra) (now start)) (countsOf (now claims) (now waited)) (bucketsOf (now «bucket_claims») (now «bucket_ticks»)) ≡ s ⌝ }
+    requires { λ s. ⌜ Sound s ⌝ }
+    ensures { λ s r. ⌜ Obeyed command s (stateOf n m b (now (kind .entry)) (r .clock) (r .steps) (settingsOf (now (priority .exit)) (now (enable .exit)) (now (threshold .exit))) (requestsOf (now (stage .exit)) (now (line .exit)) (now (extra .exit)) (now (start .exit))) (countsOf (now (claims .exit)) (now (waited .exit))) (bucketsOf (now («bucket_claims» .exit)) (now («bucket_ticks» .exit)))) (r .said) ⌝ }
 {
     match command {
-        Command::Make(_, _, _, _) => refused(clock, steps, 11),
+        Command::Make(_, _, _, _) => refused(clock, steps, Refusal::Unreadable),
         Command::Line(i, level) => obey_line(
-            n,
-            m,
-            b,
-            clock,
-            steps,
-            kind,
-            priority,
-            enable,
-            threshold,
-            stage,
-            line,
-            extra,
-            start,
-            claims,
-            waited,
-            bucket_claims,
-            bucket_ticks,
-            i,
-            level,
+            n, clock, steps, kind, i, level, stage, line, extra, start,
         ),
         Command::Advance(ticks) => obey_advance(clock, steps, ticks),
         Command::Read(offset) => obey_read(
             n,
             m,
-            b,
             clock,
             steps,
-            kind,
+            offset,
             priority,
             enable,
             threshold,
             stage,
-            line,
-            extra,
             start,
             claims,
             waited,
             bucket_claims,
             bucket_ticks,
-            offset,
         ),
         Command::Write(offset, v) => obey_write(
-            n,
-            m,
-            b,
-            clock,
-            steps,
-            kind,
-            priority,
-            enable,
-            threshold,
-            stage,
-            line,
-            extra,
-            start,
-            claims,
-            waited,
-            bucket_claims,
-            bucket_ticks,
-            offset,
-            v,
+            n, m, b, clock, steps, offset, v, kind, priority, enable, threshold, stage, line,
+            extra, start,
         ),
         Command::Notify(c) => obey_notify(
-            n,
-            m,
-            clock,
-            steps,
-            priority,
-            enable,
-            threshold,
-            stage,
-            c,
+            n, m, clock, steps, priority, enable, threshold, stage, c,
         ),
-        Command::Unreadable => refused(clock, steps, 11),
+        Command::Unreadable => refused(clock, steps, Refusal::Unreadable),
     }
 }

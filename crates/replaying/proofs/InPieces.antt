@@ -1,5 +1,5 @@
--- Chunking does not show: a script that comes in pieces prints what it prints in one, though from piece to piece no more than 256 bytes
--- of a line are held; and the replay that is held is always fit to go on.
+-- Chunking does not show: a script that comes in pieces prints what it prints in one, though from piece to piece only the
+-- first bytes of a line are held; and the replay that is held is always fit to go on.
 -- Assumes nothing.
 use mathlib.Core.Path.{_≡_, _∙_, refl, sym, ap, subst}
 use mathlib.Core.Bool.{Bool, true, false, cond, So}
@@ -11,6 +11,7 @@ use lib.Dec.{leb, eqb, lit≤}
 use lib.ListN.{length, take, drop, replicate, length-append, length-take, length-replicate}
 use lib.Seq.{sets, sets-eq, take-take, take-append-seam}
 use borrow.Author.Tests.{le-leb, eq-eqb}
+use Rattle.limits.specs.Limits.{heldRoom}
 use Rattle.laws.specs.Fold.{allOf}
 use Rattle.laws.proofs.Truth.{and-intro, cond-so, cond-not, cond-elim}
 use Rattle.model.specs.declared.State.{State}
@@ -20,27 +21,27 @@ use Rattle.model.proofs.Sound.{sound-test}
 use Rattle.replaying.specs.declared.Place.the-variants.{Before, On}
 use Rattle.replaying.specs.declared.Replaying.{Replaying}
 use Rattle.replaying.specs.Replay.{Stand, before, on, ended, Told, answer, Replay, lineEnds, fed, fedAll, lastIn, closing, finished, fresh, replay}
-use Rattle.replaying.specs.Pieces.{lineLength, begunAt, standOf, shown, padded, kept, boardSound, fit, ending, Replayed, fedPieces, printedInPieces, joinedPieces}
+use Rattle.replaying.specs.Pieces.{lineLength, begunAt, standOf, shown, padded, paused, boardSound, fit, ending, Replayed, fedPieces, printedInPieces, joinedPieces}
 use Rattle.replaying.proofs.Chunks.{fed-apart}
 use Rattle.replaying.proofs.Through.{after, printed-apart, line-append, cut-answer}
 use Rattle.replaying.proofs.Boards.{replay-accounted}
 
 -- what is held of a line that has begun, and a replay with no more of its line than that
 abbrev cut : Stand → List ℕ → List ℕ
-cut before l = take 256 l
-cut (on s) l = take 256 l
+cut before l = take heldRoom l
+cut (on s) l = take heldRoom l
 cut ended l = []
 
 abbrev tight : Replay → Replay
 tight r = record { stand = r .stand; begun = cut (r .stand) (r .begun); printed = r .printed }
 
-abbrev keptOf : Replay → Replaying
-keptOf r = kept (r .stand) (r .begun)
+abbrev pausedOf : Replay → Replaying
+pausedOf r = paused (r .stand) (r .begun)
 
 -- a line that is cut stays as it is, goes on and ends as the line does
 cut-twice : (p : Stand) (l : List ℕ) → cut p (cut p l) ≡ cut p l
-cut-twice before l = take-take 256 256 l (lit≤ tt)
-cut-twice (on s) l = take-take 256 256 l (lit≤ tt)
+cut-twice before l = take-take heldRoom heldRoom l (lit≤ tt)
+cut-twice (on s) l = take-take heldRoom heldRoom l (lit≤ tt)
 cut-twice ended l = refl
 
 take-more : (n : ℕ) (l xs : List ℕ) → take n (take n l ++ xs) ≡ take n (l ++ xs)
@@ -49,8 +50,8 @@ take-more (suc n) [] xs = refl
 take-more (suc n) (b ∷ bs) xs = ap (λ (r : List ℕ). b ∷ r) (take-more n bs xs)
 
 cut-more : (p : Stand) (l xs : List ℕ) → cut p (cut p l ++ xs) ≡ cut p (l ++ xs)
-cut-more before l xs = take-more 256 l xs
-cut-more (on s) l xs = take-more 256 l xs
+cut-more before l xs = take-more heldRoom l xs
+cut-more (on s) l xs = take-more heldRoom l xs
 cut-more ended l xs = refl
 
 cut-told : (p : Stand) (l : List ℕ) → answer p (cut p l) ≡ answer p l
@@ -81,33 +82,33 @@ tight-fed-all r (b ∷ bs) =
     ∙ ap (λ (k : Replay). tight (fedAll k bs)) (tight-fed r b)
     ∙ tight-fed-all (fed r b) bs
 
--- what is held in 256 bytes
-pub padded-held : (l : List ℕ) → take (length (take 256 l)) (padded l) ≡ take 256 l
+-- what is held of a line
+pub padded-held : (l : List ℕ) → take (length (take heldRoom l)) (padded l) ≡ take heldRoom l
 unfolding padded
 padded-held l =
-    ap (take (length (take 256 l))) (sets-eq (take 256 l) (replicate 256 0) 0 (omega (arith, length-take 256 l, length-replicate {A = ℕ} 256 0, zero-add (length (take 256 l)), min-le-left 256 (length l))))
-    ∙ take-append-seam (take 256 l) (drop (0 + length (take 256 l)) (replicate 256 0))
+    ap (take (length (take heldRoom l))) (sets-eq (take heldRoom l) (replicate heldRoom 0) 0 (omega (arith, length-take heldRoom l, length-replicate {A = ℕ} heldRoom 0, zero-add (length (take heldRoom l)), min-le-left heldRoom (length l))))
+    ∙ take-append-seam (take heldRoom l) (drop (0 + length (take heldRoom l)) (replicate heldRoom 0))
 
 -- the replay that is held is the cut one, and the cut one is held alike
-shown-kept : (p : Stand) (l : List ℕ) → shown (kept p l) ≡ begunAt p (cut p l)
-unfolding shown kept standOf
-shown-kept before l = ap (begunAt before) (padded-held l)
-shown-kept (on s) l = ap (begunAt (on s)) (padded-held l)
-shown-kept ended l = refl
+shown-paused : (p : Stand) (l : List ℕ) → shown (paused p l) ≡ begunAt p (cut p l)
+unfolding shown paused standOf
+shown-paused before l = ap (begunAt before) (padded-held l)
+shown-paused (on s) l = ap (begunAt (on s)) (padded-held l)
+shown-paused ended l = refl
 
-kept-cut : (p : Stand) (l : List ℕ) → kept p (cut p l) ≡ kept p l
-unfolding kept padded
-kept-cut before l = ap (λ (m : List ℕ). record { place = Before; state = zeroState; begun = sets (replicate 256 0) 0 m; held = length m }) (cut-twice before l)
-kept-cut (on s) l = ap (λ (m : List ℕ). record { place = On; state = s; begun = sets (replicate 256 0) 0 m; held = length m }) (cut-twice (on s) l)
-kept-cut ended l = refl
+paused-cut : (p : Stand) (l : List ℕ) → paused p (cut p l) ≡ paused p l
+unfolding paused padded
+paused-cut before l = ap (λ (m : List ℕ). record { place = Before; state = zeroState; begun = sets (replicate heldRoom 0) 0 m; count = length m }) (cut-twice before l)
+paused-cut (on s) l = ap (λ (m : List ℕ). record { place = On; state = s; begun = sets (replicate heldRoom 0) 0 m; count = length m }) (cut-twice (on s) l)
+paused-cut ended l = refl
 
-kept-tight : (r k : Replay) → tight r ≡ tight k → keptOf r ≡ keptOf k
-kept-tight r k e = sym (kept-cut (r .stand) (r .begun)) ∙ ap keptOf e ∙ kept-cut (k .stand) (k .begun)
+paused-tight : (r k : Replay) → tight r ≡ tight k → pausedOf r ≡ pausedOf k
+paused-tight r k e = sym (paused-cut (r .stand) (r .begun)) ∙ ap pausedOf e ∙ paused-cut (k .stand) (k .begun)
 
 -- one piece, fed to the replay that is held
-piece-fed : (r : Replay) (piece : List ℕ) → tight (after (r .printed) (fedAll (shown (keptOf r)) piece)) ≡ tight (fedAll r piece)
+piece-fed : (r : Replay) (piece : List ℕ) → tight (after (r .printed) (fedAll (shown (pausedOf r)) piece)) ≡ tight (fedAll r piece)
 piece-fed r piece =
-    ap (λ (k : Replay). tight (after (r .printed) (fedAll k piece))) (shown-kept (r .stand) (r .begun))
+    ap (λ (k : Replay). tight (after (r .printed) (fedAll k piece))) (shown-paused (r .stand) (r .begun))
     ∙ ap tight (sym (printed-apart piece (r .printed) (begunAt (r .stand) (cut (r .stand) (r .begun)))))
     ∙ ap (λ (q : List ℕ). tight (fedAll (record { stand = r .stand; begun = cut (r .stand) (r .begun); printed = q }) piece)) (append-nil (r .printed))
     ∙ tight-fed-all r piece
@@ -115,22 +116,22 @@ piece-fed r piece =
 -- all the pieces
 pieces-fed : (r : Replay) (pieces : List (List ℕ)) →
     _≡_ {A = Replayed}
-    (record { replay = fedPieces (keptOf r) pieces .replay; printed = r .printed ++ fedPieces (keptOf r) pieces .printed })
-    (record { replay = keptOf (fedAll r (joinedPieces pieces)); printed = fedAll r (joinedPieces pieces) .printed })
+    (record { replay = fedPieces (pausedOf r) pieces .replay; printed = r .printed ++ fedPieces (pausedOf r) pieces .printed })
+    (record { replay = pausedOf (fedAll r (joinedPieces pieces)); printed = fedAll r (joinedPieces pieces) .printed })
 unfolding fedPieces joinedPieces fedAll
-pieces-fed r [] = λ i. record { replay = keptOf r; printed = append-nil (r .printed) i }
+pieces-fed r [] = λ i. record { replay = pausedOf r; printed = append-nil (r .printed) i }
 pieces-fed r (piece ∷ pieces) =
-    let held : Replay = fedAll (shown (keptOf r)) piece in
+    let held : Replay = fedAll (shown (pausedOf r)) piece in
     let whole : Replay = fedAll r piece in
     let same = piece-fed r piece in
     let later : Replaying → Replayed = λ k. fedPieces k pieces in
-    (λ i. record { replay = later (keptOf held) .replay; printed = sym (append-assoc (r .printed) (held .printed) (later (keptOf held) .printed)) i })
+    (λ i. record { replay = later (pausedOf held) .replay; printed = sym (append-assoc (r .printed) (held .printed) (later (pausedOf held) .printed)) i })
     ∙ (λ i. record {
-      replay = later (kept-tight (after (r .printed) held) whole same i) .replay;
-      printed = same i .printed ++ later (kept-tight (after (r .printed) held) whole same i) .printed;
+      replay = later (paused-tight (after (r .printed) held) whole same i) .replay;
+      printed = same i .printed ++ later (paused-tight (after (r .printed) held) whole same i) .printed;
     })
     ∙ pieces-fed whole pieces
-    ∙ ap (λ (k : Replay). record { replay = keptOf k; printed = k .printed }) (sym (fed-apart r piece (joinedPieces pieces)))
+    ∙ ap (λ (k : Replay). record { replay = pausedOf k; printed = k .printed }) (sym (fed-apart r piece (joinedPieces pieces)))
 
 -- no line feed is among the bytes of a line that has begun
 abbrev OneLine : List ℕ → Type 0
@@ -163,20 +164,20 @@ fed-all-one-line r (b ∷ bs) f = fed-all-one-line (fed r b) bs (fed-one-line r 
 
 -- a replay is fit that holds the beginning of one line, and whose board is sound
 line-fit : (board : Bool) (l : List ℕ) → OneLine l → So board →
-    So (allOf (leb (length (take 256 l)) 256 ∷ eqb (lineLength (take (length (take 256 l)) (padded l))) (length (take 256 l)) ∷ board ∷ []))
+    So (allOf (leb (length (take heldRoom l)) heldRoom ∷ eqb (lineLength (take (length (take heldRoom l)) (padded l))) (length (take heldRoom l)) ∷ board ∷ []))
 unfolding allOf
 line-fit board l f t =
-    and-intro (le-leb (length (take 256 l)) 256 (omega (arith, length-take 256 l, min-le-left 256 (length l))))
-    (and-intro (eq-eqb _ _ (ap lineLength (padded-held l) ∙ one-line-cut 256 l f)) (and-intro t refl))
+    and-intro (le-leb (length (take heldRoom l)) heldRoom (omega (arith, length-take heldRoom l, min-le-left heldRoom (length l))))
+    (and-intro (eq-eqb _ _ (ap lineLength (padded-held l) ∙ one-line-cut heldRoom l f)) (and-intro t refl))
 
-kept-fit : (p : Stand) (l : List ℕ) → OneLine l → ((s : State) → p ≡ on s → Sound s) → So (fit (kept p l))
-unfolding fit kept boardSound allOf lineLength
-kept-fit before l f g = line-fit true l f refl
-kept-fit (on s) l f g = line-fit _ l f (sound-test s (g s refl))
-kept-fit ended l f g = refl
+paused-fit : (p : Stand) (l : List ℕ) → OneLine l → ((s : State) → p ≡ on s → Sound s) → So (fit (paused p l))
+unfolding fit paused boardSound allOf lineLength
+paused-fit before l f g = line-fit true l f refl
+paused-fit (on s) l f g = line-fit _ l f (sound-test s (g s refl))
+paused-fit ended l f g = refl
 
-replay-fit : (input : List ℕ) → So (fit (keptOf (fedAll fresh input)))
-replay-fit input = kept-fit (fedAll fresh input .stand) (fedAll fresh input .begun)
+replay-fit : (input : List ℕ) → So (fit (pausedOf (fedAll fresh input)))
+replay-fit input = paused-fit (fedAll fresh input .stand) (fedAll fresh input .begun)
     (fed-all-one-line fresh input (unfold fresh lineLength in refl))
     (λ s e. replay-accounted input s e .sound)
 
@@ -191,20 +192,20 @@ cut-last : (p : Stand) (l q : List ℕ) →
     q ++ finished (lastIn (cut p l) (begunAt p (cut p l))) ≡ finished (lastIn l (record { stand = p; begun = l; printed = q }))
 unfolding lastIn finished answer lineEnds closing
 cut-last before [] q = refl
-cut-last before (b ∷ bs) q = last-line before (b ∷ bs) (take 256 (b ∷ bs)) q (cut-answer before (b ∷ bs))
+cut-last before (b ∷ bs) q = last-line before (b ∷ bs) (take heldRoom (b ∷ bs)) q (cut-answer before (b ∷ bs))
 cut-last (on s) [] q = refl
-cut-last (on s) (b ∷ bs) q = last-line (on s) (b ∷ bs) (take 256 (b ∷ bs)) q (cut-answer (on s) (b ∷ bs))
+cut-last (on s) (b ∷ bs) q = last-line (on s) (b ∷ bs) (take heldRoom (b ∷ bs)) q (cut-answer (on s) (b ∷ bs))
 cut-last ended [] q = refl
 cut-last ended (b ∷ bs) q = sym (append-nil (q ++ []))
 
-kept-ending : (r : Replay) → So (fit (keptOf r)) → r .printed ++ ending (keptOf r) ≡ finished (lastIn (r .begun) r)
+paused-ending : (r : Replay) → So (fit (pausedOf r)) → r .printed ++ ending (pausedOf r) ≡ finished (lastIn (r .begun) r)
 unfolding ending
-kept-ending r t =
-    ap (λ (l : List ℕ). r .printed ++ l) (cond-so _ _ t ∙ ap (λ (k : Replay). finished (lastIn (k .begun) k)) (shown-kept (r .stand) (r .begun)))
+paused-ending r t =
+    ap (λ (l : List ℕ). r .printed ++ l) (cond-so _ _ t ∙ ap (λ (k : Replay). finished (lastIn (k .begun) k)) (shown-paused (r .stand) (r .begun)))
     ∙ cut-last (r .stand) (r .begun) (r .printed)
 
 -- the replay that is held is always fit ..
-pub fit-in-pieces : (pieces : List (List ℕ)) → So (fit (fedPieces (kept before []) pieces .replay))
+pub fit-in-pieces : (pieces : List (List ℕ)) → So (fit (fedPieces (paused before []) pieces .replay))
 unfolding fresh
 fit-in-pieces pieces =
     subst (λ (k : Replayed). So (fit (k .replay))) (sym (pieces-fed fresh pieces)) (replay-fit (joinedPieces pieces))
@@ -214,4 +215,4 @@ pub in-pieces : (pieces : List (List ℕ)) → printedInPieces pieces ≡ replay
 unfolding printedInPieces replay fresh
 in-pieces pieces =
     ap (λ (k : Replayed). k .printed ++ ending (k .replay)) (pieces-fed fresh pieces)
-    ∙ kept-ending (fedAll fresh (joinedPieces pieces)) (replay-fit (joinedPieces pieces))
+    ∙ paused-ending (fedAll fresh (joinedPieces pieces)) (replay-fit (joinedPieces pieces))

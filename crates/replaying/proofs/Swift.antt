@@ -9,6 +9,8 @@ use lib.ListN.{drop}
 use borrow.Author.Tests.{eqb-true}
 use Rattle.laws.proofs.Truth.{cond-elim}
 use Rattle.model.specs.declared.State.{State}
+use Rattle.model.specs.declared.Refusal.the-variants as refusal
+use Rattle.model.specs.Refusals.{numberOf}
 use Rattle.model.specs.Sound.{Sound}
 use Rattle.model.specs.Calls.{Call, line, advance, read, write, notification, respond, make}
 use Rattle.model.proofs.Calls.{stays-sound}
@@ -27,13 +29,13 @@ OnSound (on s) = Sound s
 OnSound ended = Unit {0}
 
 unfoldable pub swiftly : Command → State → Told
-swiftly (Make n c b k) s = record { stand = on s; prints = refusedLine 11 }
+swiftly (Make n c b k) s = record { stand = on s; prints = refusedLine (numberOf refusal.Unreadable) }
 swiftly (Line i v) s = goesOn silent (quick (line i v) s)
 swiftly (Advance n) s = goesOn silent (quick (advance n) s)
 swiftly (Read off) s = goesOn (valueLine 82) (quick (read off) s)
 swiftly (Write off v) s = goesOn silent (quick (write off v) s)
 swiftly (Notify c) s = goesOn (valueLine 78) (quick (notification c) s)
-swiftly Unreadable s = record { stand = on s; prints = refusedLine 11 }
+swiftly Unreadable s = record { stand = on s; prints = refusedLine (numberOf refusal.Unreadable) }
 
 unfoldable pub swiftAnswer : Stand → List ℕ → Told
 swiftAnswer before bytes = firstLine (openingOf (commandOf bytes)) bytes

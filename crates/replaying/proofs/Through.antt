@@ -1,5 +1,5 @@
 -- A piece of a script, line by line: what is printed before stands before; a line in it, and the lines after it; after the end nothing
--- is printed; and a line over 255 bytes is as unreadable cut to 256.
+-- is printed; and a line that is too long is as unreadable cut to what is held.
 -- Assumes nothing.
 use mathlib.Core.Path.{_≡_, _∙_, refl, sym, ap}
 use mathlib.Core.Bool.{Bool, true, false, cond, So}
@@ -12,6 +12,7 @@ use lib.Dec.{leb, eqb}
 use lib.ListN.{length, take, drop, take-append-drop}
 use lib.Seq.{take-length, length-take-le, take-all}
 use borrow.Author.Tests.{lt-ltb, leb-true, leb-false}
+use Rattle.limits.specs.Limits.{lineRoom, heldRoom}
 use Rattle.laws.proofs.Truth.{cond-so, dichotomy}
 use Rattle.commands.specs.Grammar.{commandOf, openingOf}
 use Rattle.commands.specs.declared.Command.{Command}
@@ -119,9 +120,9 @@ feeds-none (b ∷ bs) e = by-cases (eqb b 10) e (feeds-none bs)
     by-cases false e ih = zero-add (lineFeeds bs) ∙ ih (suc-inj e)
 
 -- a line that is too long
-pub too-long : (l : List ℕ) → 255 < length l → commandOf l ≡ Unreadable
+pub too-long : (l : List ℕ) → lineRoom < length l → commandOf l ≡ Unreadable
 unfolding commandOf
-too-long l h = cond-so _ _ (lt-ltb 255 (length l) h)
+too-long l h = cond-so _ _ (lt-ltb lineRoom (length l) h)
 
 pub unreadable-answer : (p : Stand) (l m : List ℕ) → commandOf l ≡ Unreadable → commandOf m ≡ Unreadable → answer p l ≡ answer p m
 unfolding answer firstLine openingOf
@@ -129,10 +130,10 @@ unreadable-answer before l m e f = ap (λ (c : Command). firstLine (openingOf c)
 unreadable-answer (on s) l m e f = ap (λ (c : Command). commanded c s) (e ∙ sym f)
 unreadable-answer ended l m e f = refl
 
-pub cut-answer : (p : Stand) (l : List ℕ) → answer p (take 256 l) ≡ answer p l
+pub cut-answer : (p : Stand) (l : List ℕ) → answer p (take heldRoom l) ≡ answer p l
 cut-answer p l = ⊎-elim
-    (λ (t : So (leb (length l) 256)). ap (answer p) (take-all 256 l (leb-true _ _ t)))
+    (λ (t : So (leb (length l) heldRoom)). ap (answer p) (take-all heldRoom l (leb-true _ _ t)))
     (λ t.
-    let long = leb-false (length l) 256 t in
-    unreadable-answer p (take 256 l) l (too-long (take 256 l) (omega (arith, length-take-le 256 l (omega (arith, long))))) (too-long l (omega (arith, long))))
-    (dichotomy (leb (length l) 256))
+    let long = leb-false (length l) heldRoom t in
+    unreadable-answer p (take heldRoom l) l (too-long (take heldRoom l) (omega (arith, length-take-le heldRoom l (omega (arith, long))))) (too-long l (omega (arith, long))))
+    (dichotomy (leb (length l) heldRoom))

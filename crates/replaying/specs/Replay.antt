@@ -6,7 +6,8 @@ use Prim.Native.Nat.{ℕ, zero, suc, _+_, _/_, _%_}
 use lib.Dec.{ltb, eqb}
 use lib.ListN.{getD, drop}
 use Rattle.model.specs.declared.State.{State}
-use Rattle.model.specs.Refusals.{Outcome}
+use Rattle.model.specs.declared.Refusal.the-variants as refusal
+use Rattle.model.specs.Refusals.{numberOf, Outcome}
 use Rattle.model.specs.Calls.{line, advance, read, write, notification, totals, valuesOf, respond, make}
 use Rattle.commands.specs.declared.Command.{Command}
 use Rattle.commands.specs.declared.Command.the-variants.{Make, Line, Advance, Read, Write, Notify, Unreadable}
@@ -61,13 +62,13 @@ silent v = []
 
 -- a line that is not the first: "a later `P` is unreadable"
 unfoldable pub commanded : Command → State → Told
-commanded (Make n c b k) s = record { stand = on s; prints = refusedLine 11 }
+commanded (Make n c b k) s = record { stand = on s; prints = refusedLine (numberOf refusal.Unreadable) }
 commanded (Line i v) s = goesOn silent (respond (line i v) s)
 commanded (Advance n) s = goesOn silent (respond (advance n) s)
 commanded (Read off) s = goesOn (valueLine 82) (respond (read off) s)
 commanded (Write off v) s = goesOn silent (respond (write off v) s)
 commanded (Notify c) s = goesOn (valueLine 78) (respond (notification c) s)
-commanded Unreadable s = record { stand = on s; prints = refusedLine 11 }
+commanded Unreadable s = record { stand = on s; prints = refusedLine (numberOf refusal.Unreadable) }
 
 -- "kinds being one or more letters of l, e, c"
 unfoldable pub kindByte : ℕ → ℕ
@@ -85,7 +86,7 @@ started o = record {
 }
 
 unfoldable pub badStart : Told
-badStart = record { stand = ended; prints = refusedLine 11 }
+badStart = record { stand = ended; prints = refusedLine (numberOf refusal.Unreadable) }
 
 -- "`P N C b kinds` must come first (any other first line is unreadable)"
 unfoldable pub firstLine : Opening → List ℕ → Told
@@ -124,7 +125,7 @@ lastIn [] r = r
 lastIn (b ∷ bs) r = lineEnds r
 
 unfoldable pub closing : Stand → List ℕ
-closing before = refusedLine 11
+closing before = refusedLine (numberOf refusal.Unreadable)
 closing (on s) = totalsLine (valuesOf totals s)
 closing ended = []
 

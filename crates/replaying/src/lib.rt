@@ -4,6 +4,8 @@ mod lines;
 mod text;
 
 pub use lines::line_end;
+use limits::HELD_ROOM;
+use model::Answer;
 use model::Refusal;
 use model::State;
 pub use text::put_said;
@@ -23,13 +25,13 @@ pub enum Place {
     Ended,
 }
 
-// A replay between two pieces of its script: where it stands, the board, and the line that has begun, of which the first 256 bytes
-// tell enough. Off a board the state is zero throughout; the bytes after those that are held are zero.
+// A replay between two pieces of its script: where it stands, the board, and the line that has begun, of which the first bytes tell
+// enough, and how many of them are held. Off a board the state is zero throughout; the bytes after those that are held are zero.
 pub struct Replaying {
     pub place: Place,
     pub state: State,
-    pub begun: [u8; 256],
-    pub held: usize,
+    pub begun: [u8; HELD_ROOM],
+    pub count: usize,
 }
 
 // What became of a piece of a script: how many bytes of it were taken and how many were printed; or a refusal.
@@ -43,8 +45,8 @@ pub struct Fed {
     pub replay: Replaying,
 }
 
-// The bytes that a replay prints at the end of its script; zeros after them.
+// The end of a script: how many bytes it prints, or a refusal; and the bytes, zeros after them.
 pub struct Ending {
+    pub answer: Answer,
     pub bytes: [u8; 160],
-    pub length: usize,
 }

@@ -99,7 +99,7 @@ module _ (s : State) where
     abbrev Left : ℕ → Type 0
     Left w = Claimed (s .clock) w (s .requests .stage) (s .requests .start) stage start (s .counts) counts (s .buckets) buckets
 
-    untouched : Left 0 → withClaimed s stage start counts buckets ≡ s
+    pub untouched : Left 0 → withClaimed s stage start counts buckets ≡ s
     untouched after = λ i. withClaimed s (after .stages i) (after .starts i) (after .counted i) (after .booked i)
 
     pub read-whole : (r : Register) → Left (claimedIn n (s .requests .stage) (s .settings .priority) (s .settings .enable) r) →

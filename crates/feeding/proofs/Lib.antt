@@ -1,0 +1,6 @@
+pub mod Obeyed
+pub mod Going
+pub mod Rooms
+pub mod FirstLines
+pub mod Parts
+pub mod Endings

@@ -1,0 +1,149 @@
+-- `pieces::feed_first` meets its contract: no line ends; the first line makes a board; or it is refused.
+-- Assumes nothing.
+use mathlib.Core.Path.{_∙_, sym, subst}
+use mathlib.Core.List.{_++_}
+use Prim.Native.Nat.{ℕ, _+_, _-_, _≤_}
+use native.Mathlib.Nat.{zero-add, min-le-left}
+use native.Mathlib.Omega.{arith}
+use lib.ListN.{length, take, drop, length-take}
+use lib.Seq.{length-take-le}
+use Rattle.limits.specs.Limits.{heldRoom}
+use Rattle.model.specs.Refusals.{numberOf}
+use Rattle.replaying.specs.declared.Place.the-variants.{Before}
+use Rattle.replaying.specs.declared.Said.the-variants.{Refused}
+use Rattle.replaying.specs.Replay.{before, refusedLine}
+use Rattle.replaying.specs.Text.{saidBytes, Written}
+use Rattle.replaying.specs.Pieces.{padded, paused}
+use Rattle.replaying.proofs.Print.{written-put}
+use Rattle.replaying.proofs.Ends.{line-most, feeds-most}
+use Rattle.feeding.proofs.Rooms.{joined-cut, joined-room}
+use Rattle.feeding.proofs.FirstLines.{told-made, told-unmade, made-is-sound}
+use Rattle.feeding.proofs.Parts.{feeds-begun, feeds-made, feeds-unmade}
+use borrow.Author.Needs.{needs}
+use Rattle.feeding.proofs.pieces.feed_first.Statement.{statement}
+use Rattle.feeding.proofs.pieces.feed_first.Tie as tie
+
+line-end-requires : tie.Need-line-end-requires
+line-end-requires c κs = search needs
+
+zero-requires : tie.Need-zero-requires
+zero-requires c κs = search needs
+
+standing-requires : tie.Need-standing-requires
+standing-requires c κs = search needs
+
+returns : tie.Need-returns
+unfolding paused
+returns c =
+    let a = c .before .before .before .before .before .before .before .args in
+    let l = a .begun .now ++ a .input .now in
+    feeds-begun before (a .begun .now) (a .input .now) (a .output .now) (c .standing .result) (sym (c .before .before .before .line-end .ensures ∙ zero-add _) ∙ c .before .before .if1 .taken)
+    (c .standing .ensures ∙ (λ i. record { replay = record { place = Before; state = c .before .zero .ensures i; begun = padded l; count = length (take heldRoom l) }; written = 0 }))
+
+slice-aggregate-joined : tie.Need-slice-aggregate-joined
+slice-aggregate-joined c = sym (length-take-le (c .before .before .line-end .result) (c .before .before .before .before .before .before .args .input .now) (omega (arith, c .before .before .line-end .ensures, line-most (c .before .before .before .before .before .before .args .input .now))))
+
+joined-requires : tie.Need-joined-requires
+joined-requires c κs = search needs
+
+array-share-prefix-bytes : tie.Need-array-share-prefix-bytes
+array-share-prefix-bytes c =
+    let room = joined-room _ (c .before .joined .result) (c .before .joined .ensures) in
+    omega (arith, room .0, room .1)
+
+slice-aggregate-open-board : tie.Need-slice-aggregate-open-board
+slice-aggregate-open-board c =
+    let room = joined-room _ (c .before .before .joined .result) (c .before .before .joined .ensures) in
+    sym (length-take-le (c .before .before .joined .result .count) (c .before .before .joined .result .bytes) (omega (arith, room .0, room .1)))
+
+open-board-requires : tie.Need-open-board-requires
+open-board-requires c κs =
+    let room = joined-room _ (c .before .before .joined .result) (c .before .before .joined .ensures) in
+    omega (arith, room .0, length-take (c .before .before .joined .result .count) (c .before .before .joined .result .bytes), min-le-left (c .before .before .joined .result .count) (length (c .before .before .joined .result .bytes)))
+
+enum-told : tie.Need-enum-told
+enum-told c = search needs
+
+add-from : tie.Need-add-from
+add-from c = omega (arith, c .before .before .before .before .before .before .before .before .line-end .ensures, line-most (c .before .before .before .before .before .before .before .before .before .before .before .before .args .input .now), c .before .before .before .before .before .before .before .if1 .left, c .before .before .before .before .before .before .before .before .before .before .before .before .good .1 .0)
+
+sub-feed-lines : tie.Need-sub-feed-lines
+sub-feed-lines c = omega (arith, c .before .before .before .before .before .before .before .before .before .line-end .ensures, line-most (c .before .before .before .before .before .before .before .before .before .before .before .before .before .args .input .now), c .before .before .before .before .before .before .before .before .if1 .left)
+
+part-feed-lines-start : tie.Need-part-feed-lines-start
+part-feed-lines-start c = omega (arith, c .before .before .before .before .before .before .before .before .before .line-end .ensures, line-most (c .before .before .before .before .before .before .before .before .before .before .before .before .before .args .input .now), c .before .before .before .before .before .before .before .before .if1 .left)
+
+part-feed-lines-end : tie.Need-part-feed-lines-end
+part-feed-lines-end c = search needs
+
+feed-lines-requires : tie.Need-feed-lines-requires
+feed-lines-requires c κs =
+    let input = c .before .before .before .before .before .before .before .before .before .before .before .before .before .before .before .args .input .now in
+    let end = c .before .before .before .before .before .before .before .before .before .before .before .line-end .result in
+    let rest = take (length input - (end + 1)) (drop (end + 1) input) in (
+      made-is-sound (c .before .before .before .before .before .before .before .before .before .before .before .before .before .before .before .args .begun .now ++ take (c .before .before .before .before .before .before .before .before .before .before .before .line-end .result) (c .before .before .before .before .before .before .before .before .before .before .before .before .before .before .before .args .input .now)) _ (c .before .before .before .before .before .open-board .result) (joined-cut _ (c .before .before .before .before .before .before .before .before .joined .result) (c .before .before .before .before .before .before .before .before .joined .ensures)) (c .before .before .before .before .before .open-board .ensures) (c .before .before .before .enum-told .given .0 .0) (c .before .before .before .enum-told .given .1),
+      omega (arith, c .before .before .before .before .before .before .before .before .before .before .before .before .before .before .before .pre .1, feeds-most rest, length-take (length input - (end + 1)) (drop (end + 1) input), min-le-left (length input - (end + 1)) (length (drop (end + 1) input))),
+    )
+
+enum-known-answer : tie.Need-enum-known-answer
+enum-known-answer c = search needs
+
+number-of-requires : tie.Need-number-of-requires
+number-of-requires c κs = search needs
+
+put-said-requires : tie.Need-put-said-requires
+put-said-requires c κs = search needs
+
+at-end-requires : tie.Need-at-end-requires
+at-end-requires c κs = search needs
+
+same-length : tie.Need-same-length
+same-length c = search needs
+
+returns-2 : tie.Need-returns-2
+returns-2 c =
+    feeds-made (c .before .before .before .before .before .before .before .before .before .before .before .before .before .before .before .before .before .before .args .begun .now) (c .before .before .before .before .before .before .before .before .before .before .before .before .before .before .before .before .before .before .args .input .now) (c .before .before .before .before .before .before .before .before .before .before .before .before .before .before .before .before .before .before .args .output .now) (c .before .before .before .before .before .before .before .before .before .before .before .before .before .before .line-end .result) (c .before .before .before .before .before .before .before .before .open-board .result) (c .before .before .feed-lines .result) (c .before .before .before .before .before .before .before .before .before .before .before .before .before .before .line-end .ensures) (c .before .before .before .before .before .before .before .before .before .before .before .before .before .if1 .left) (c .before .before .feed-lines .last .1 .1 .0)
+    (told-made (c .before .before .before .before .before .before .before .before .before .before .before .before .before .before .before .before .before .before .args .begun .now ++ take (c .before .before .before .before .before .before .before .before .before .before .before .before .before .before .line-end .result) (c .before .before .before .before .before .before .before .before .before .before .before .before .before .before .before .before .before .before .args .input .now)) _ (c .before .before .before .before .before .before .before .before .open-board .result) (joined-cut _ (c .before .before .before .before .before .before .before .before .before .before .before .joined .result) (c .before .before .before .before .before .before .before .before .before .before .before .joined .ensures)) (c .before .before .before .before .before .before .before .before .open-board .ensures) (c .before .before .before .before .before .before .enum-told .given .0 .0) (c .before .before .before .before .before .before .enum-told .given .1))
+    (c .before .before .feed-lines .ensures)
+
+same-length-2 : tie.Need-same-length-2
+same-length-2 c = search needs
+
+returns-3 : tie.Need-returns-3
+unfolding saidBytes
+returns-3 c =
+    let a = c .before .before .before .before .before .before .before .before .before .before .before .before .before .before .before .before .before .before .before .args in
+    let why = c .before .before .before .before .before .before .before .answer .given .0 .0 in
+    let enough : 0 + 20 ≤ length (a .output .now) = omega (arith, c .before .before .before .before .before .before .before .before .before .before .before .before .before .before .before .before .before .before .before .pre .1, c .before .before .before .before .before .before .before .before .before .before .before .before .before .before .before .line-end .ensures, line-most (c .before .before .before .before .before .before .before .before .before .before .before .before .before .before .before .before .before .before .before .args .input .now), c .before .before .before .before .before .before .before .before .before .before .before .before .before .before .if1 .left) in
+    let said = written-put 20 (saidBytes (Refused (c .before .before .before .before .before .number-of .result))) (a .output .now) (c .before .before .before .put-said .last .1 .0) 0 (c .before .before .before .put-said .result) enough (c .before .before .before .put-said .ensures .0) in
+    feeds-unmade (a .begun .now) (a .input .now) (a .output .now) (c .before .before .before .before .before .before .before .before .before .before .before .before .before .before .before .line-end .result) (c .before .before .before .before .before .before .before .before .before .open-board .result) (c .at-end .result) (c .before .before .before .before .before .before .before .before .before .before .before .before .before .before .before .line-end .ensures) (c .before .before .before .before .before .before .before .before .before .before .before .before .before .before .if1 .left) (c .before .before .before .put-said .last .1 .0) (c .before .before .before .put-said .result) (numberOf why)
+    (told-unmade (c .before .before .before .before .before .before .before .before .before .before .before .before .before .before .before .before .before .before .before .args .begun .now ++ take (c .before .before .before .before .before .before .before .before .before .before .before .before .before .before .before .line-end .result) (c .before .before .before .before .before .before .before .before .before .before .before .before .before .before .before .before .before .before .before .args .input .now)) _ (c .before .before .before .before .before .before .before .before .before .open-board .result) (joined-cut _ (c .before .before .before .before .before .before .before .before .before .before .before .before .joined .result) (c .before .before .before .before .before .before .before .before .before .before .before .before .joined .ensures)) (c .before .before .before .before .before .before .before .before .before .open-board .ensures) why (c .before .before .before .before .before .before .before .answer .given .1))
+    (subst (λ (k : ℕ). Written (a .output .now) (c .before .before .before .put-said .last .1 .0) 0 (c .before .before .before .put-said .result) (refusedLine k)) (c .before .before .before .before .before .number-of .ensures) said) (c .at-end .ensures)
+
+pub feed-first-spec : {M : Type 1} → statement M
+feed-first-spec =
+    tie.close
+    (tie.spec
+    line-end-requires
+    zero-requires
+    standing-requires
+    returns
+    slice-aggregate-joined
+    joined-requires
+    array-share-prefix-bytes
+    slice-aggregate-open-board
+    open-board-requires
+    enum-told
+    add-from
+    sub-feed-lines
+    part-feed-lines-start
+    part-feed-lines-end
+    feed-lines-requires
+    enum-known-answer
+    number-of-requires
+    put-said-requires
+    at-end-requires
+    same-length
+    returns-2
+    same-length-2
+    returns-3)
