@@ -160,7 +160,8 @@ pub record Reached (lines : List (List ℕ)) (s : State) : Type 0 where
   pub is : s ≡ run (boardOf lines) (callsOf lines)
   pub account : Accounted s (past (boardOf lines) (callsOf lines))
 
-lines-reach : (lines : List (List ℕ)) (s : State) → standAfter lines ≡ on s → Reached lines s
+-- the board that a script's lines lead to is so reached
+pub lines-reach : (lines : List (List ℕ)) (s : State) → standAfter lines ≡ on s → Reached lines s
 unfolding standAfter boardOf callsOf making
 lines-reach [] s e = absurd (never e)
   where
