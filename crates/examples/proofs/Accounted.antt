@@ -1,7 +1,7 @@
 -- One run, computed: a claim, an open request, two refusals and a completion, with its area. The account holds of it, so that its
 -- premises can be met.
 -- Assumes nothing.
-use mathlib.Core.Path.{_≡_, refl}
+use mathlib.Core.Path.{_≡_, refl, sym, subst₂}
 use mathlib.Core.Bool.{Bool, true, So}
 use mathlib.Core.List.{List, [], _∷_}
 use lib.Dec.{eqb}
@@ -43,9 +43,13 @@ told p s = allOf (
     ∷ eqb (p .rose 3) 1
     ∷ [])
 
-pub one-run : So (told (past board whole) (run board whole))
+quick-told : So (told (quickPast board whole) (quickRun board whole))
 unfolding computed quickRun quickPast board whole told
-one-run = rw (past-quick board board-sound, run-quick board board-sound) refl
+quick-told = refl
+
+pub one-run : So (told (past board whole) (run board whole))
+one-run = subst₂ (λ (p : Past) (s : State). So (told p s))
+    (sym (past-quick board board-sound whole)) (sym (run-quick board board-sound whole)) quick-told
 
 pub one-run-accounted : Accounted (run board whole) (past board whole)
 unfolding board

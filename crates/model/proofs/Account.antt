@@ -1,5 +1,6 @@
 -- Demand 3, call by call: what a state holds agrees with what the run tells, and goes on doing so.
--- It stands on the definitions and on no law about soundness being kept, so that a wrong definition is refused here first.
+-- It stands on the definitions, on what a call answers and on when a completion takes effect, and on no law about soundness being kept:
+-- a definition that makes up a count is refused here first.
 -- Each call is a change of one of three forms: no wait ends and no tick passes, the clock advances, or a source is claimed.
 -- Assumes nothing.
 use mathlib.Core.Path.{_≡_, _∙_, refl, sym, ap, ap₂, subst, subst₂}

@@ -70,7 +70,7 @@ module _ (n m off : ℕ) where
   stands-decodes l (Enable c w) p =
       let words = word-range n w (p .1) in
       let contexts = context-range m c (p .0) in
-      let most : w ≤ 3 = omega (arith, words, l .0) in
+      let most : w < wordRoom = omega (arith, words, l .0) in
       let place : off - 0x2000 ≡ 0x80 * c + 4 * w = omega (arith, p .2) in
       let context : (off - 0x2000) / 0x80 ≡ c = omega (arith, place) in
       let word : (off - 0x2000) % 0x80 / 4 ≡ w = omega (arith, place) in

@@ -98,7 +98,8 @@ unfolding makingBy
 made-accounted (opening.Board n c b k) bytes calls e = accounted n c b (kindBytes (drop k bytes)) e calls
 made-accounted opening.Unreadable bytes calls e = absurd (omega (arith, e))
 
-lines-reach : (lines : List (List ℕ)) (s : State) → standAfter lines ≡ on s → Reached lines s
+-- the board that a script's lines lead to is so reached
+pub lines-reach : (lines : List (List ℕ)) (s : State) → standAfter lines ≡ on s → Reached lines s
 unfolding standAfter boardOf callsOf making
 lines-reach [] s e = absurd (never e)
   where

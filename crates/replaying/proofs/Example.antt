@@ -1,6 +1,6 @@
 -- Document 01's example of a replay, computed: these bytes in, those bytes out, and its area.
 -- Assumes nothing.
-use mathlib.Core.Path.{_≡_, _∙_, refl}
+use mathlib.Core.Path.{_≡_, _∙_, refl, sym, ap₂, subst₂}
 use mathlib.Core.Bool.{true}
 use mathlib.Core.List.{List, [], _∷_}
 use Prim.Native.Nat.{ℕ, _+_, _*_}
@@ -66,9 +66,16 @@ unfolding made
 made-is-sound = made-sound 3 1 3 (0 ∷ 1 ∷ 2 ∷ []) (unfold computed in refl) .1
 
 -- "The area is 5 × 1 + 4 × 0 + 2 × 1 = 7 = 5 + 2.": the waits of the claims, and the ages still open
-pub area :
-    let s : State = run (boardOf (linesIn script)) (callsOf (linesIn script)) in
-    let p : Past = past (boardOf (linesIn script)) (callsOf (linesIn script)) in
-    (p .area ≡ 5 * 1 + 4 * 0 + 2 * 1) × (p .area ≡ 7) × (ticksIn runs.every (p .events) ≡ 5) × (agesOpen s p ≡ 2)
+abbrev pub Area : State → Past → Type 0
+Area s p = (p .area ≡ 5 * 1 + 4 * 0 + 2 * 1) × (p .area ≡ 7) × (ticksIn runs.every (p .events) ≡ 5) × (agesOpen s p ≡ 2)
+
+quick-area : Area (quickRun made calls) (quickPast made calls)
 unfolding computed quickRun quickPast made calls
-area = rw (board-is, calls-are, past-quick made made-is-sound, run-quick made made-is-sound) (refl, refl, refl, refl)
+quick-area = (refl, refl, refl, refl)
+
+-- .. of this script's own run
+pub area : Area (run (boardOf (linesIn script)) (callsOf (linesIn script))) (past (boardOf (linesIn script)) (callsOf (linesIn script)))
+area = subst₂ Area
+    (sym (ap₂ run board-is calls-are ∙ run-quick made made-is-sound calls))
+    (sym (ap₂ past board-is calls-are ∙ past-quick made made-is-sound calls))
+    quick-area
