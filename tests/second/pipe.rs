@@ -17,6 +17,8 @@ use std::time::Duration;
 
 /// For one answer, and for the end of an ordinary run.
 const PATIENCE: Duration = Duration::from_secs(30);
+/// For the end of a run that reads no more.
+const AT_ONCE: Duration = Duration::from_secs(10);
 /// For the huge line, on a slow host with an emulator.
 const LONG_PATIENCE: Duration = Duration::from_secs(600);
 /// Between two pieces, so that most of them are read apart.
@@ -29,9 +31,10 @@ const SIGPIPE: i32 = 13;
 type Program = [String];
 type Outcome = Result<(), String>;
 
-const TESTS: [(&str, fn(&Program) -> Outcome); 17] = [
+const TESTS: [(&str, fn(&Program) -> Outcome); 18] = [
     ("every answer comes before the next line is written", co_process),
-    ("a refused first line is answered at once", refused_at_once),
+    ("an unreadable first line ends the run at once, the input still open", |p| ends_at_once(p, "T 1", "refused 11\n")),
+    ("a refused shape ends the run at once, the input still open", |p| ends_at_once(p, &too_many_bits(), "refused 1\n")),
     ("a script in one piece", |p| in_pieces(p, &mixed_script(400_000), &[usize::MAX])),
     ("a script in single bytes", |p| in_pieces(p, &mixed_script(3_000), &[1])),
     ("a script cut at random", |p| in_pieces(p, &mixed_script(400_000), &random_lengths())),
@@ -126,14 +129,26 @@ fn co_process(program: &Program) -> Outcome {
     converse(program, &lines, &last)
 }
 
-fn refused_at_once(program: &Program) -> Outcome {
+/// After a first line that makes no board there is nothing to read: the
+/// program ends with status 0, though its writer still holds the pipe.
+fn ends_at_once(program: &Program, first: &str, expected: &str) -> Outcome {
     let mut child = child::start(program, Stdio::piped())?;
     let mut pipe = child.stdin.take().expect("the input is a pipe");
-    let answers = lines_of(child.stdout.take().expect("the output is a pipe"));
-    let outcome = say(&mut pipe, &format!("P 1 1 {} l", MOST_BITS + 1)).and_then(|()| hear(&answers, "refused 1"));
+    say(&mut pipe, first)?;
+    let ended = child::end(child, AT_ONCE)?;
     drop(pipe);
-    child::wait(&mut child, PATIENCE)?;
-    outcome
+    if !ended.in_time {
+        let printed = ended.output.escape_ascii();
+        return Err(format!("does not end within {AT_ONCE:?} while the input is open; printed '{printed}'"));
+    }
+    if !ended.status.success() {
+        return Err(format!("ended by {}", ended.status));
+    }
+    agrees(expected, ended)
+}
+
+fn too_many_bits() -> String {
+    format!("P 1 1 {} l", MOST_BITS + 1)
 }
 
 /// Writes each line after the answer to the one before has come; then closes

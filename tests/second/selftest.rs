@@ -21,7 +21,8 @@ pub fn run() -> Result<(), String> {
     probes.extend(limits());
     probes.push(percentiles());
     probes.extend(probe_forms());
-    let replays = [replay_example(), vec![long_first_line(LONGEST_LINE, 1), long_first_line(LONGEST_LINE + 1, 11)], replay_forms()].concat();
+    let long_lines = vec![long_first_line(LONGEST_LINE, 1), long_first_line(LONGEST_LINE + 1, 11)];
+    let replays = [replay_example(), long_lines, replay_forms()].concat();
     let mut failed = 0;
     for (language, examples) in [(REPLAY, &replays), (PROBE, &probes)] {
         for (name, input, output) in examples {

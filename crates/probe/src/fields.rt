@@ -105,6 +105,7 @@ pub(crate) fn field_named(word: &[u8]) -> Named {
     Named::Nothing
 }
 
+// The last index of a field. The bound is for the loop over the indices.
 pub(crate) fn last_index(field: Field) -> u64
     ensures { λ r. ⌜ r < sourceRoom + enableRoom ⌝ }
 {

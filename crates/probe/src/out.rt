@@ -4,16 +4,16 @@ use crate::text::append;
 use crate::text::first;
 use libc::STDOUT_FILENO;
 
+const ROOM: usize = 4096;
+
+// Above this the longest text may not fit.
+const FULL: usize = ROOM - limits::HELD_ROOM;
+
 pub(crate) struct Out {
     bytes: [u8; ROOM],
     used: usize,
     pub(crate) is_open: bool,
 }
-
-// Above `FULL` the longest text may not fit.
-const ROOM: usize = 4096;
-
-const FULL: usize = ROOM - limits::HELD_ROOM;
 
 impl Out {
     pub(crate) fn new() -> Out {
