@@ -32,7 +32,7 @@ pub feed-one : (r : Replay) → fedAll r (10 ∷ []) ≡ lineEnds r
 unfolding fedAll fed
 feed-one r = refl
 
-pub ending-line : (r : Replaying) → (r .held ≡ 0 → ⊥) → length (take (r .count) (r .begun)) ≡ r .count →
+pub ending-line : (r : Replaying) → (r .count ≡ 0 → ⊥) → length (take (r .count) (r .begun)) ≡ r .count →
     fedAll (shown r) (10 ∷ []) .printed ++ closing (fedAll (shown r) (10 ∷ []) .stand) ≡ finished (lastIn (shown r .begun) (shown r))
 unfolding finished
 ending-line r ne e = sym (ap finished (last-some (shown r .begun) (shown r) long ∙ sym (feed-one (shown r))))

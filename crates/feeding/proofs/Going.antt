@@ -18,7 +18,7 @@ use Rattle.replaying.specs.declared.Place.the-variants.{On}
 use Rattle.replaying.specs.Pieces.{lineLength, lineFeeds, padded, paused}
 use Rattle.replaying.proofs.Chunks.{fed-apart}
 use Rattle.replaying.proofs.Print.{written-length, written-then, written-put}
-use Rattle.replaying.proofs.Ends.{fed-held, line-most, line-more, feeds-part, feeds-more}
+use Rattle.replaying.proofs.Ends.{fed-held, line-most, line-more, feeds-most, feeds-part, feeds-more}
 use Rattle.feeding.specs.declared.progress.Progress.{Progress}
 use Rattle.feeding.specs.Engine.{Obeyed, boarded, FeedsBoard}
 use Rattle.feeding.proofs.Obeyed.{obeyed-sound}
@@ -62,10 +62,11 @@ module _ {s₀ s : State} {input out₀ out : List ℕ} {from at written end : �
       holds = ap (λ (k : Progress). k .replay) e ∙ ap (paused (on s)) (rest-of at input) ∙ sym (λ i. paused (whole i .stand) (whole i .begun));
       prints = subst (λ (k : ℕ). Written out₀ out from k (fedAll (boarded s₀) input .printed)) (sym written-is)
           (subst (Written out₀ out from written) (sym (ap (λ (r : Replay). r .printed) whole)) (g .prints));
+      room = omega (arith, written-is, g .room, feeds-part at input, feeds-most input);
     };
     stands = ap (λ (r : Replay). r .stand) whole ∙ ap on (sym state-is);
     sound = subst Sound (sym state-is) (g .sound);
-    room = omega (arith, written-is, g .room, feeds-part at input);
+    answers = omega (arith, written-is, g .room, feeds-part at input);
   }
     where
       written-is : p .written ≡ written

@@ -4,3 +4,5 @@ pub mod Rooms
 pub mod FirstLines
 pub mod Parts
 pub mod Endings
+pub mod Scripts
+pub mod Fixed

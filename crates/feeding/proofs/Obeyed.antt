@@ -100,6 +100,17 @@ module _ {number : ℕ} where
   pub goes : {A : Type 0} (x y : A) → number ≡ 0 → y ≡ cond (eqb number 0) y x
   goes x y e = sym (cond-so _ _ (ap (λ (k : ℕ). eqb k 0) e))
 
+-- where nothing is claimed nothing changes; and what a claim leaves, by an equal number
+pub unclaimed : (clock : ℕ) (stage start : List ℕ) (counts : Counts) (buckets : Buckets) →
+    Claimed clock 0 stage start stage start counts counts buckets buckets
+unclaimed clock stage start counts buckets = record { stages = refl; starts = refl; counted = refl; booked = refl }
+
+pub claimed-as : {clock w v : ℕ} {stage start stage′ start′ : List ℕ} {counts counts′ : Counts} {buckets buckets′ : Buckets} →
+    w ≡ v → Claimed clock w stage start stage′ start′ counts counts′ buckets buckets′ →
+    Claimed clock v stage start stage′ start′ counts counts′ buckets buckets′
+claimed-as {clock} {stage = a} {start = b} {stage′ = c} {start′ = d} {counts = e} {counts′ = f} {buckets = g} {buckets′ = h} same =
+    subst (λ (w : ℕ). Claimed clock w a b c d e f g h) same
+
 -- a state with all but its shape given
 abbrev pub filled : State → ℕ → ℕ → Settings → Requests → Counts → Buckets → State
 filled s clock steps g q k b = record {

@@ -3,12 +3,12 @@
 use mathlib.Core.Path.{_≡_, _∙_, refl, sym, ap, subst}
 use mathlib.Core.Bool.{Bool, true, _&&_, So, and-true}
 use mathlib.Core.List.{List, [], _∷_, _++_}
-use Prim.Native.Nat.{ℕ, suc, _+_, _-_, _≤_, _<_}
+use Prim.Native.Nat.{ℕ, suc, _+_, _-_, _*_, _≤_, _<_}
 use native.Mathlib.Nat.{zero-add, add-zero}
 use native.Mathlib.Numerals.{add-one}
 use native.Mathlib.Omega.{arith}
 use lib.Dec.{leb, ltb, eqb}
-use lib.ListN.{length, take, drop, length-append}
+use lib.ListN.{length, take, drop, length-append, length-drop}
 use lib.Seq.{sets, take-length, take-append-seam}
 use borrow.Author.Tests.{le-leb, leb-true, eq-eqb, eqb-true, ltb-true}
 use Rattle.limits.specs.Limits.{lineRoom, heldRoom}
@@ -38,7 +38,7 @@ fit-board r h e =
     ∙ and-true (boardSound (r .place) (r .state))
 
 -- what a fit replay may rely on
-pub fit-facts : (r : Replaying) → So (fit r) → (r .held ≤ heldRoom) × (lineLength (take (r .count) (r .begun)) ≡ r .count) × So (boardSound (r .place) (r .state))
+pub fit-facts : (r : Replaying) → So (fit r) → (r .count ≤ heldRoom) × (lineLength (take (r .count) (r .begun)) ≡ r .count) × So (boardSound (r .place) (r .state))
 unfolding fit allOf
 fit-facts r t =
     let rest = and-right (leb (r .count) heldRoom) _ t in (
@@ -97,17 +97,19 @@ feeds-begun p b input out part e f =
         bytes = sym (ap (λ (r : Replay). sets out 0 (r .printed)) whole);
         place = ap (λ (k : Progress). k .written) f ∙ sym (zero-add _ ∙ ap (λ (r : Replay). length (r .printed)) whole);
       };
+      room = omega (arith, ap (λ (k : Progress). k .written) f);
     }
 
 -- a line ends, and the rest of the piece follows
 pub feeds-through : (p : Stand) (b input out mid out′ : List ℕ) (written : ℕ) (part : Progress) (told : Told) → lineLength input < length input →
-    answer p (b ++ take (lineLength input) input) ≡ told → Written out mid 0 written (told .prints) →
+    answer p (b ++ take (lineLength input) input) ≡ told → Written out mid 0 written (told .prints) → written ≤ 20 →
     Feeds (begunAt (told .stand) []) (drop (suc (lineLength input)) input) mid out′ written part → Feeds (begunAt p b) input out out′ 0 part
-feeds-through p b input out mid out′ written part told h e v f =
+feeds-through p b input out mid out′ written part told h e v few f =
     let whole = one-end p b input h told e in
     record {
       holds = f .holds ∙ sym (λ i. paused (whole i .stand) (whole i .begun));
       prints = subst (Written out out′ 0 (part .written)) (sym (ap (λ (r : Replay). r .printed) whole)) (written-then v (f .prints));
+      room = omega (arith, f .room, length-drop (suc (lineLength input)) input);
     }
 
 -- a piece after the end
@@ -123,6 +125,7 @@ feeds-ended r input out written part e f g =
         bytes = sym (ap (sets out written) quiet);
         place = ap (λ (k : Progress). k .written) g ∙ sym (ap (λ (l : List ℕ). written + length l) quiet ∙ add-zero written);
       };
+      room = omega (arith, ap (λ (k : Progress). k .written) g);
     }
 
 -- the line that has begun, with the bytes that end it
@@ -151,16 +154,22 @@ feeds-board s b input out mid out′ line end w part e f ne g gone feeds =
     feeds-through (on s) b input out mid out′ (w .written) part (answer (on s) (b ++ take (lineLength input) input))
     (omega (arith, is, ne, line-most input)) refl
     (subst (λ (k : ℕ). Written out mid 0 (w .written) (answer (on s) (b ++ take k input) .prints)) is
-    (subst (λ (t : Told). Written out mid 0 (w .written) (t .prints)) (stand-in-answer s (b ++ take end input)) (told .1)))
+    (subst (λ (t : Told). Written out mid 0 (w .written) (t .prints)) (stand-in-answer s (b ++ take end input)) (told .1))) few
     (subst (λ (p : Stand). Feeds (begunAt p []) (drop (suc (lineLength input)) input) mid out′ (w .written) part) (sym stands)
     (subst (λ (l : List ℕ). Feeds (boarded (w .replay .state)) l mid out′ (w .written) part) (rest-of (end + 1) input ∙ ap (λ (k : ℕ). drop k input) (add-one end ∙ ap suc is)) feeds))
   where
     is : end ≡ lineLength input
     is = f ∙ zero-add (lineLength input)
 
+    ended : lineLength (standIn (b ++ take end input)) ≡ length (standIn (b ++ take end input))
+    ended = stand-in-line _ (begun-line b input end e f)
+
+    few : w .written ≤ 20
+    few = omega (arith, gone .answers, ap lineFeeds g, one-feed _ ended)
+
     told : (answer (on s) (standIn (b ++ take end input)) .stand ≡ on (w .replay .state))
         × Written out mid 0 (w .written) (answer (on s) (standIn (b ++ take end input)) .prints)
-    told = one-line s (standIn (b ++ take end input)) out mid w (stand-in-line _ (begun-line b input end e f))
+    told = one-line s (standIn (b ++ take end input)) out mid w ended
         (subst (λ (l : List ℕ). FeedsBoard s l out mid 0 w) g gone)
 
     stands : answer (on s) (b ++ take (lineLength input) input) .stand ≡ on (w .replay .state)
@@ -182,11 +191,11 @@ module _ (b input out : List ℕ) (end : ℕ) (made : Answered) (part : Progress
   pub feeds-made : (out′ : List ℕ) → answer before (b ++ take end input) ≡ record { stand = on (made .state); prints = [] } →
       Feeds (boarded (made .state)) (take (length input - (end + 1)) (drop (end + 1) input)) out out′ 0 part → Feeds (begunAt before b) input out out′ 0 part
   feeds-made out′ e feeds =
-      feeds-through before b input out out out′ 0 part (record { stand = on (made .state); prints = [] }) there (told-at _ e) (record { bytes = refl; place = refl })
+      feeds-through before b input out out out′ 0 part (record { stand = on (made .state); prints = [] }) there (told-at _ e) (record { bytes = refl; place = refl }) (omega arith)
       (subst (λ (l : List ℕ). Feeds (boarded (made .state)) l out out′ 0 part) (rest-of (end + 1) input ∙ ap (λ (k : ℕ). drop k input) (add-one end ∙ ap suc is)) feeds)
 
   pub feeds-unmade : (mid : List ℕ) (written number : ℕ) → answer before (b ++ take end input) ≡ record { stand = ended; prints = refusedLine number } →
-      Written out mid 0 written (refusedLine number) → part ≡ record { replay = paused ended []; written = written } → Feeds (begunAt before b) input out mid 0 part
-  feeds-unmade mid written number e v f =
-      feeds-through before b input out mid mid written part (record { stand = ended; prints = refusedLine number }) there (told-at _ e) v
+      Written out mid 0 written (refusedLine number) → written ≤ 20 → part ≡ record { replay = paused ended []; written = written } → Feeds (begunAt before b) input out mid 0 part
+  feeds-unmade mid written number e v few f =
+      feeds-through before b input out mid mid written part (record { stand = ended; prints = refusedLine number }) there (told-at _ e) v few
       (feeds-ended (begunAt ended []) (drop (suc (lineLength input)) input) mid written part refl refl f)

@@ -47,14 +47,17 @@ boarded s = begunAt (on s) []
 unfoldable pub standIn : List ℕ → List ℕ
 standIn l = cond (ltb lineRoom (length l)) [] l
 
--- a piece has been fed: the replay after it is held, and what it prints stands in the output from a place on
+-- a piece has been fed: the replay after it is held, and what it prints, at most 20 bytes for each of its own, stands in the output
+-- from a place on
 pub record Feeds (r : Replay) (input out out′ : List ℕ) (from : ℕ) (p : Progress) : Type 0 where
   pub holds : p .replay ≡ paused (fedAll r input .stand) (fedAll r input .begun)
   pub prints : Written out out′ from (p .written) (fedAll r input .printed)
+  pub room : p .written ≤ from + 20 * length input
 
--- a piece has been fed on a board: it is still on one, which is sound, and an answer takes at most 20 bytes
+-- a piece has been fed on a board: it is still on one, which is sound, and an answer takes at most
+-- 20 bytes
 pub record FeedsBoard (s : State) (input out out′ : List ℕ) (from : ℕ) (p : Progress) : Type 0 where
   pub feeds : Feeds (boarded s) input out out′ from p
   pub stands : fedAll (boarded s) input .stand ≡ on (p .replay .state)
   pub sound : Sound (p .replay .state)
-  pub room : p .written ≤ from + 20 * lineFeeds input
+  pub answers : p .written ≤ from + 20 * lineFeeds input

@@ -25,7 +25,7 @@ ghost use lib.ListN.{length};
 ghost use Rattle.limits.specs.Limits.{heldRoom};
 ghost use Rattle.model.specs.Sound.{Sound};
 ghost use Rattle.replaying.specs.Replay.{before, on};
-ghost use Rattle.replaying.specs.Pieces.{lineLength, begunAt, shown, paused, fit, fedOf, feeding};
+ghost use Rattle.replaying.specs.Pieces.{lineLength, begunAt, shown, paused, fit, printedBy, fedOf, feeding};
 ghost use Rattle.feeding.specs.Engine.{Feeds};
 
 // A piece on a board, after the bytes of the line that has begun.
@@ -126,10 +126,10 @@ pub fn start() -> Replaying
 }
 
 // Takes a piece of a script to a replay. Returns how many bytes were taken, as many as the output surely has room for at 20 bytes
-// each, and how many were printed, which stand at the start of the output; or refusal 2 for a replay that cannot go on. And the
-// replay after it.
+// each, and how many were printed, which stand at the start of the output and fit there; or refusal 2 for a replay that cannot go on.
+// And the replay after it.
 pub fn feed(replay: Replaying, input: &[u8], output: &mut [u8]) -> Fed
-    ensures { λ r. ⌜ fedOf r (now (output .exit)) ≡ feeding replay (now (input .entry)) (now (output .entry)) ⌝ }
+    ensures { λ r. ⌜ (fedOf r (now (output .exit)) ≡ feeding replay (now (input .entry)) (now (output .entry))) × (printedBy r ≤ length (now (output .entry))) ⌝ }
 {
     if !is_fit(replay) {
         return Fed {

@@ -15,10 +15,8 @@ pub(crate) struct Reader {
 }
 
 impl Reader {
-    // The state of a make that is refused is zero throughout.
     pub(crate) fn new() -> Reader {
-        let made = plic::make(0, 0, 0, b"");
-        let state = made.state;
+        let state = plic::zero();
         Reader {
             state: state,
             line: Text::empty(),

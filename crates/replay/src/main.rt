@@ -2,6 +2,8 @@
 // what was printed, before it waits for more; what is printed is decided, and proved, in the library.
 use libc::STDIN_FILENO;
 use libc::STDOUT_FILENO;
+use model::Answer;
+use replaying::Place;
 use replaying::Replaying;
 use replaying::Taken;
 
@@ -19,16 +21,29 @@ fn write_first(bytes: &[u8], n: usize) -> bool {
     io::write_all(STDOUT_FILENO, &bytes[..n])
 }
 
+// Whether a first line that was refused has ended the replay: nothing is printed after it, so nothing more is read.
+fn is_over(replay: Replaying) -> bool {
+    let place = replay.place;
+    match place {
+        Place::Ended => true,
+        Place::Before => false,
+        Place::On => false,
+    }
+}
+
 // Feeds a piece, and writes what it prints.
 fn step(replay: Replaying, input: &[u8], output: &mut [u8]) -> Stepped {
-    let fed = plic::feed(replay, input, output);
+    let fed = feeding::feed(replay, input, output);
     let taken = fed.taken;
     let next = fed.replay;
     match taken {
-        Taken::Bytes(_, written) => Stepped {
-            replay: next,
-            goes_on: write_first(output, written),
-        },
+        Taken::Bytes(_, printed) => {
+            let is_written = write_first(output, printed);
+            Stepped {
+                replay: next,
+                goes_on: is_written & !is_over(next),
+            }
+        }
         Taken::Refused(_) => Stepped {
             replay: next,
             goes_on: false,
@@ -36,13 +51,13 @@ fn step(replay: Replaying, input: &[u8], output: &mut [u8]) -> Stepped {
     }
 }
 
-// The output has 20 bytes for each of the input, so that every piece is taken whole. An input that fails has ended, and a closed output
-// ends the program. Nothing says that an input ends, and a proved loop has to: so the turns are counted down, from a number that no run
+// The output has 20 bytes for each of the input, so that every piece is taken whole. An input that fails has ended; a closed output and
+// a refused first line end the program. Nothing says that an input ends, and a proved loop has to: so the turns are counted down, from a number that no run
 // uses up.
 fn main() {
     let mut input = [0u8; 16384];
     let mut output = [0u8; 327680];
-    let mut replay = plic::start();
+    let mut replay = feeding::start();
     let mut turns = u64::MAX;
     while turns > 0 {
         let got = libc::read(STDIN_FILENO, &mut input);
@@ -58,7 +73,10 @@ fn main() {
         replay = next;
         turns -= 1;
     }
-    let ending = plic::finish(replay);
+    let ending = feeding::finish(replay);
+    let answer = ending.answer;
     let bytes = ending.bytes;
-    write_first(&bytes, ending.length);
+    if let Answer::Value(printed) = answer {
+        write_first(&bytes, printed as usize);
+    }
 }

@@ -35,7 +35,7 @@ cut ended l = []
 abbrev tight : Replay → Replay
 tight r = record { stand = r .stand; begun = cut (r .stand) (r .begun); printed = r .printed }
 
-abbrev pausedOf : Replay → Replaying
+abbrev pub pausedOf : Replay → Replaying
 pausedOf r = paused (r .stand) (r .begun)
 
 -- a line that is cut stays as it is, goes on and ends as the line does
@@ -113,6 +113,10 @@ piece-fed r piece =
     ∙ ap (λ (q : List ℕ). tight (fedAll (record { stand = r .stand; begun = cut (r .stand) (r .begun); printed = q }) piece)) (append-nil (r .printed))
     ∙ tight-fed-all r piece
 
+-- .. and the replay that is held after it
+pub piece-held : (r : Replay) (piece : List ℕ) → pausedOf (fedAll (shown (pausedOf r)) piece) ≡ pausedOf (fedAll r piece)
+piece-held r piece = paused-tight (after (r .printed) (fedAll (shown (pausedOf r)) piece)) (fedAll r piece) (piece-fed r piece)
+
 -- all the pieces
 pieces-fed : (r : Replay) (pieces : List (List ℕ)) →
     _≡_ {A = Replayed}
@@ -176,7 +180,7 @@ paused-fit before l f g = line-fit true l f refl
 paused-fit (on s) l f g = line-fit _ l f (sound-test s (g s refl))
 paused-fit ended l f g = refl
 
-replay-fit : (input : List ℕ) → So (fit (pausedOf (fedAll fresh input)))
+pub replay-fit : (input : List ℕ) → So (fit (pausedOf (fedAll fresh input)))
 replay-fit input = paused-fit (fedAll fresh input .stand) (fedAll fresh input .begun)
     (fed-all-one-line fresh input (unfold fresh lineLength in refl))
     (λ s e. replay-accounted input s e .sound)

@@ -1,5 +1,6 @@
--- How long an answer can be: 29 bytes, whatever its numbers.
+-- How long an answer can be, whatever its numbers: 29 bytes; the last line of output: 128; and the end of a script: 160.
 -- Assumes nothing.
+use mathlib.Core.Path.{_≡_, refl, ap}
 use mathlib.Core.List.{List, [], _∷_, _++_}
 use Prim.Native.Nat.{ℕ, zero, suc, _+_, _/_, _%_, _≤_}
 use native.Mathlib.Omega.{arith}
@@ -8,13 +9,15 @@ use lib.ListN.{length, getD, drop, length-append}
 use Rattle.laws.proofs.Truth.{cond-elim}
 use Rattle.model.specs.declared.State.{State}
 use Rattle.model.specs.Refusals.{Outcome}
-use Rattle.model.specs.Calls.{line, advance, read, write, notification, respond, make}
+use Rattle.model.specs.Calls.{line, advance, read, write, notification, totals, valuesOf, respond, make}
 use Rattle.commands.specs.declared.Command.{Command}
 use Rattle.commands.specs.declared.Command.the-variants.{Make, Line, Advance, Read, Write, Notify, Unreadable}
 use Rattle.commands.specs.declared.Opening.{Opening}
 use Rattle.commands.specs.declared.Opening.the-variants as opening
 use Rattle.commands.specs.Grammar.{commandOf, openingOf}
-use Rattle.replaying.specs.Replay.{digitsIn, digits, refusedLine, valueLine, Stand, before, on, ended, goesOn, silent, commanded, kindBytes, started, badStart, firstLine, answer}
+use Rattle.replaying.specs.Replay.{digitsIn, digits, refusedLine, valueLine, Stand, before, on, ended, goesOn, silent, commanded, kindBytes, started, badStart, firstLine, answer, totalsLine, Told, Replay, lineEnds, lastIn, closing, finished}
+use Rattle.replaying.specs.declared.Replaying.{Replaying}
+use Rattle.replaying.specs.Pieces.{shown, fit, ending}
 
 places : (j n : ℕ) → length (digitsIn j n) ≤ j
 unfolding digitsIn
@@ -67,3 +70,44 @@ unfolding answer
 answer-short before l = first-short (openingOf (commandOf l)) l
 answer-short (on s) l = commanded-short (commandOf l) s
 answer-short ended l = omega arith
+
+-- the last line of output, with four numbers of at most 20 digits
+word-short : (word : List ℕ) (n : ℕ) → length (word ++ digits n) ≤ length word + 20
+unfolding digits
+word-short word n = omega (arith, length-append word (digitsIn 20 n), places 20 n)
+
+totals-short : (t : List ℕ) → length (totalsLine t) ≤ 128
+unfolding totalsLine
+totals-short t = simp length-append (omega (
+  arith,
+  word-short (99 ∷ 108 ∷ 111 ∷ 99 ∷ 107 ∷ 32 ∷ []) (getD t 0 0),
+  word-short (32 ∷ 99 ∷ 108 ∷ 97 ∷ 105 ∷ 109 ∷ 115 ∷ 32 ∷ []) (getD t 1 0),
+  word-short (32 ∷ 119 ∷ 97 ∷ 105 ∷ 116 ∷ 101 ∷ 100 ∷ 32 ∷ []) (getD t 2 0),
+  word-short (32 ∷ 111 ∷ 112 ∷ 101 ∷ 110 ∷ 32 ∷ []) (getD t 3 0),
+))
+
+closing-short : (p : Stand) → length (closing p) ≤ 128
+unfolding closing
+closing-short before = omega (arith, refused-short 11)
+closing-short (on s) = totals-short (valuesOf totals s)
+closing-short ended = omega arith
+
+-- .. and the end of a script: the answer to a last line that lacks its line feed, and the last line of output
+last-short : (l : List ℕ) (r : Replay) → r .printed ≡ [] → length (finished (lastIn l r)) ≤ 160
+unfolding finished lastIn lineEnds
+last-short [] r e = omega (arith, length-append (r .printed) (closing (r .stand)), ap length e, closing-short (r .stand))
+last-short (b ∷ bs) r e =
+    let told : Told = answer (r .stand) (r .begun) in
+    omega (
+      arith,
+      length-append (r .printed ++ told .prints) (closing (told .stand)),
+      length-append (r .printed) (told .prints),
+      ap length e,
+      answer-short (r .stand) (r .begun),
+      closing-short (told .stand),
+    )
+
+pub ending-short : (r : Replaying) → length (ending r) ≤ 160
+unfolding ending shown
+ending-short r = cond-elim (λ (l : List ℕ). length l ≤ 160) (fit r) {x = finished (lastIn (shown r .begun) (shown r))} {y = []}
+    (λ _. last-short (shown r .begun) (shown r) refl) (λ _. omega arith)

@@ -4,7 +4,7 @@ use mathlib.Core.Bool.{Bool, true, cond}
 use mathlib.Core.List.{List, [], _∷_, _++_}
 use Prim.Native.Nat.{ℕ, suc, _+_, _/_}
 use lib.Dec.{leb, eqb}
-use lib.ListN.{length, take, replicate}
+use lib.ListN.{length, getD, take, replicate}
 use lib.Seq.{sets}
 use Rattle.limits.specs.Limits.{heldRoom}
 use Rattle.laws.specs.Fold.{allOf}
@@ -79,6 +79,10 @@ takenNumber (Refused r) = numberOf r
 unfoldable pub takenValues : Taken → List ℕ
 takenValues (Bytes taken printed) = taken ∷ printed ∷ []
 takenValues (Refused r) = 0 ∷ 0 ∷ []
+
+-- how many bytes were printed
+unfoldable pub printedBy : Fed → ℕ
+printedBy f = getD (takenValues (f .taken)) 1 0
 
 unfoldable pub fedOf : Fed → List ℕ → Feeding
 fedOf f output = record { number = takenNumber (f .taken); values = takenValues (f .taken); replay = f .replay; output = output }

@@ -8,8 +8,7 @@ use native.Mathlib.Omega.{arith}
 use lib.ListN.{length}
 use Rattle.replaying.specs.declared.Place.{Place}
 use Rattle.replaying.specs.declared.Replaying.{Replaying}
-use Rattle.replaying.specs.declared.Said.the-variants.{Refused}
-use Rattle.replaying.specs.Replay.{closing}
+use Rattle.replaying.specs.Replay.{refusedLine, closing}
 use Rattle.replaying.specs.Text.{saidBytes, Written}
 use Rattle.replaying.specs.Pieces.{standOf}
 use Rattle.replaying.proofs.Print.{written-put}
@@ -23,6 +22,9 @@ stood r out out′ at end e w = subst (λ (q : Place). Written out out′ at end
 
 enum-told : tie.Need-enum-told
 enum-told c = search needs
+
+number-of-requires : tie.Need-number-of-requires
+number-of-requires c κs = search needs
 
 put-said-requires : tie.Need-put-said-requires
 put-said-requires c κs = search needs
@@ -42,11 +44,13 @@ same-length c = search needs
 returns : tie.Need-returns
 unfolding saidBytes standOf closing
 returns c =
-    let a = c .before .before .before .before .before .before .before .args in
-    let out′ = c .before .before .put-said .last .1 .0 in
-    let room : a .at + 20 ≤ length (a .output .now) = omega (arith, c .before .before .before .before .before .before .before .pre) in
-    stood (a .replay) (a .output .now) out′ (a .at) (c .before .before .put-said .result) (c .before .before .before .before .enum-told .given .1)
-    (written-put 20 (saidBytes (Refused 11)) (a .output .now) out′ (a .at) (c .before .before .put-said .result) room (c .before .before .put-said .ensures .0))
+    let said = c .before .before in
+    let s = said .before .before .before .before .before .before in
+    let a = s .args in
+    let room : a .at + 20 ≤ length (a .output .now) = omega (arith, s .pre) in
+    let out = written-put 20 _ (a .output .now) (said .put-said .last .1 .0) (a .at) (said .put-said .result) room (said .put-said .ensures .0) in
+    stood (a .replay) (a .output .now) (said .put-said .last .1 .0) (a .at) (said .put-said .result) (said .before .before .before .enum-told .given .1)
+    (subst (λ (n : ℕ). Written (a .output .now) (said .put-said .last .1 .0) (a .at) (said .put-said .result) (refusedLine n)) (said .before .before .number-of .ensures) out)
 
 same-length-2 : tie.Need-same-length-2
 same-length-2 c = search needs
@@ -64,6 +68,7 @@ put-closing-spec =
     tie.close
     (tie.spec
     enum-told
+    number-of-requires
     put-said-requires
     enum-told-2
     put-board-requires

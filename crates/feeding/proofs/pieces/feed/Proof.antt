@@ -10,7 +10,7 @@ use lib.ListN.{length, take}
 use lib.Seq.{take-all, take-length, length-take-le}
 use borrow.Author.Tests.{not-true, not-false}
 use Rattle.laws.proofs.Truth.{cond-so, cond-not}
-use Rattle.replaying.specs.Pieces.{shown, takenNumber, takenValues, fedOf, partOf, accepted, feeding}
+use Rattle.replaying.specs.Pieces.{shown, takenNumber, takenValues, printedBy, fedOf, partOf, accepted, feeding}
 use Rattle.feeding.specs.Engine.{Feeds}
 use borrow.Author.Needs.{needs}
 use Rattle.feeding.proofs.pieces.feed.Statement.{statement}
@@ -43,9 +43,8 @@ is-fit-requires : tie.Need-is-fit-requires
 is-fit-requires c κs = search needs
 
 returns : tie.Need-returns
-unfolding fedOf takenNumber takenValues feeding
-returns c =
-    sym (cond-not _ _ (sym (c .before .is-fit .ensures) ∙ not-true _ (c .if1 .taken)))
+unfolding fedOf takenNumber takenValues printedBy feeding
+returns c = (sym (cond-not _ _ (sym (c .before .is-fit .ensures) ∙ not-true _ (c .if1 .taken))), omega arith)
 
 slice-aggregate-feed-part : tie.Need-slice-aggregate-feed-part
 slice-aggregate-feed-part c = taken-length (c .before)
@@ -60,16 +59,20 @@ same-length : tie.Need-same-length
 same-length c = search needs
 
 returns-2 : tie.Need-returns-2
-unfolding fedOf takenNumber takenValues feeding accepted
+unfolding fedOf takenNumber takenValues printedBy feeding accepted
 returns-2 c =
-    let a = c .before .before .before .before .before .before .before .before .before .before .before .args in
-    let part = c .before .before .before .feed-part .result in
-    let is = taken-is (c .before .before .before .before .before .before) .0 in
-    let f = subst (λ (l : List ℕ). Feeds (shown (a .replay)) l (a .output .now) (c .before .before .before .feed-part .last .1 .1 .0) 0 part) is (c .before .before .before .feed-part .ensures) in
-    let long = taken-length (c .before .before .before .before .before .before) ∙ ap length is in
-    let went = f .prints .place ∙ zero-add _ in
-    (λ i. record { number = 0; values = long i ∷ went i ∷ []; replay = f .holds i; output = f .prints .bytes i })
-    ∙ sym (cond-so _ _ (sym (c .before .before .before .before .before .before .before .before .is-fit .ensures) ∙ not-false _ (c .before .before .before .before .before .before .before .if1 .left)))
+    let d = c .before .before .before .before .before .before in
+    let s = d .before .before .before .before .before in
+    let a = s .args in
+    let part = c .before .before .before .feed-part in
+    let is = taken-is d .0 in
+    let f = subst (λ (l : List ℕ). Feeds (shown (a .replay)) l (a .output .now) (part .last .1 .1 .0) 0 (part .result)) is (part .ensures) in
+    let long = taken-length d ∙ ap length is in
+    let printed = f .prints .place ∙ zero-add _ in
+    let fits = sym (d .before .before .is-fit .ensures) ∙ not-false _ (d .before .if1 .left) in (
+      (λ i. record { number = 0; values = long i ∷ printed i ∷ []; replay = f .holds i; output = f .prints .bytes i }) ∙ sym (cond-so _ _ fits),
+      omega (arith, part .ensures .room, sym (taken-length d), taken-most d, div-add-mod (length (a .output .now)) 20),
+    )
 
 pub feed-spec : {M : Type 1} → statement M
 feed-spec =

@@ -104,7 +104,7 @@ returns-2 : tie.Need-returns-2
 returns-2 c =
     feeds-made (c .before .before .before .before .before .before .before .before .before .before .before .before .before .before .before .before .before .before .args .begun .now) (c .before .before .before .before .before .before .before .before .before .before .before .before .before .before .before .before .before .before .args .input .now) (c .before .before .before .before .before .before .before .before .before .before .before .before .before .before .before .before .before .before .args .output .now) (c .before .before .before .before .before .before .before .before .before .before .before .before .before .before .line-end .result) (c .before .before .before .before .before .before .before .before .open-board .result) (c .before .before .feed-lines .result) (c .before .before .before .before .before .before .before .before .before .before .before .before .before .before .line-end .ensures) (c .before .before .before .before .before .before .before .before .before .before .before .before .before .if1 .left) (c .before .before .feed-lines .last .1 .1 .0)
     (told-made (c .before .before .before .before .before .before .before .before .before .before .before .before .before .before .before .before .before .before .args .begun .now ++ take (c .before .before .before .before .before .before .before .before .before .before .before .before .before .before .line-end .result) (c .before .before .before .before .before .before .before .before .before .before .before .before .before .before .before .before .before .before .args .input .now)) _ (c .before .before .before .before .before .before .before .before .open-board .result) (joined-cut _ (c .before .before .before .before .before .before .before .before .before .before .before .joined .result) (c .before .before .before .before .before .before .before .before .before .before .before .joined .ensures)) (c .before .before .before .before .before .before .before .before .open-board .ensures) (c .before .before .before .before .before .before .enum-told .given .0 .0) (c .before .before .before .before .before .before .enum-told .given .1))
-    (c .before .before .feed-lines .ensures)
+    (c .before .before .feed-lines .ensures .feeds)
 
 same-length-2 : tie.Need-same-length-2
 same-length-2 c = search needs
@@ -118,7 +118,8 @@ returns-3 c =
     let said = written-put 20 (saidBytes (Refused (c .before .before .before .before .before .number-of .result))) (a .output .now) (c .before .before .before .put-said .last .1 .0) 0 (c .before .before .before .put-said .result) enough (c .before .before .before .put-said .ensures .0) in
     feeds-unmade (a .begun .now) (a .input .now) (a .output .now) (c .before .before .before .before .before .before .before .before .before .before .before .before .before .before .before .line-end .result) (c .before .before .before .before .before .before .before .before .before .open-board .result) (c .at-end .result) (c .before .before .before .before .before .before .before .before .before .before .before .before .before .before .before .line-end .ensures) (c .before .before .before .before .before .before .before .before .before .before .before .before .before .before .if1 .left) (c .before .before .before .put-said .last .1 .0) (c .before .before .before .put-said .result) (numberOf why)
     (told-unmade (c .before .before .before .before .before .before .before .before .before .before .before .before .before .before .before .before .before .before .before .args .begun .now ++ take (c .before .before .before .before .before .before .before .before .before .before .before .before .before .before .before .line-end .result) (c .before .before .before .before .before .before .before .before .before .before .before .before .before .before .before .before .before .before .before .args .input .now)) _ (c .before .before .before .before .before .before .before .before .before .open-board .result) (joined-cut _ (c .before .before .before .before .before .before .before .before .before .before .before .before .joined .result) (c .before .before .before .before .before .before .before .before .before .before .before .before .joined .ensures)) (c .before .before .before .before .before .before .before .before .before .open-board .ensures) why (c .before .before .before .before .before .before .before .answer .given .1))
-    (subst (λ (k : ℕ). Written (a .output .now) (c .before .before .before .put-said .last .1 .0) 0 (c .before .before .before .put-said .result) (refusedLine k)) (c .before .before .before .before .before .number-of .ensures) said) (c .at-end .ensures)
+    (subst (λ (k : ℕ). Written (a .output .now) (c .before .before .before .put-said .last .1 .0) 0 (c .before .before .before .put-said .result) (refusedLine k)) (c .before .before .before .before .before .number-of .ensures) said)
+    (omega (arith, c .before .before .before .put-said .ensures .1)) (c .at-end .ensures)
 
 pub feed-first-spec : {M : Type 1} → statement M
 feed-first-spec =
