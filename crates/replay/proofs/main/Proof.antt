@@ -53,19 +53,35 @@ loop-less : tie.Need-loop-less Inv-loop μ-loop
 loop-less c = omega arith
 
 loop-again : tie.Need-loop-again Inv-loop μ-loop
-loop-again c = (c .before .before .before .before .before .before .before .before .before .before .before .read .kept .1 .0 ∙ c .before .before .before .before .before .before .before .before .before .before .before .before .before .before .loop .inv .0, c .before .before .before .before .step .kept .1 .1 .0 ∙ c .before .before .before .before .before .before .before .before .before .before .before .before .before .before .loop .inv .1)
+loop-again c =
+    let stepped = c .before .before .before .before in
+    let got = stepped .before .before .before .before .before .before .before in
+    let inv = got .before .before .before .loop .inv in
+    (got .read .kept .1 .0 ∙ inv .0, stepped .step .kept .1 .1 .0 ∙ inv .1)
 
 finish-requires : tie.Need-finish-requires Inv-loop μ-loop
 finish-requires c κs = tt
 
+enum-known-answer : tie.Need-enum-known-answer Inv-loop μ-loop
+enum-known-answer c = search needs
+
 slice-aggregate-write-first : tie.Need-slice-aggregate-write-first Inv-loop μ-loop
 slice-aggregate-write-first c = search needs
+
+cast-write-first : tie.Need-cast-write-first Inv-loop μ-loop
+cast-write-first c = search needs
 
 write-first-requires : tie.Need-write-first-requires Inv-loop μ-loop
 write-first-requires c κs = tt
 
+enum-told : tie.Need-enum-told Inv-loop μ-loop
+enum-told c = search needs
+
 returns-2 : tie.Need-returns-2 Inv-loop μ-loop
 returns-2 c = tt
+
+returns-3 : tie.Need-returns-3 Inv-loop μ-loop
+returns-3 c = tt
 
 pub main-spec : {M : Type 1} → statement M
 main-spec =
@@ -88,6 +104,10 @@ main-spec =
     loop-less
     loop-again
     finish-requires
+    enum-known-answer
     slice-aggregate-write-first
+    cast-write-first
     write-first-requires
-    returns-2)
+    enum-told
+    returns-2
+    returns-3)
