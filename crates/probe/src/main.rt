@@ -1,16 +1,9 @@
 // `probe`: a state at hand, one command a line, each command one public call on that state. For testing, and for looking inside.
-mod fields;
-mod kinds;
 mod look;
 mod obey;
 mod out;
-mod put;
 mod reader;
 mod reply;
-mod text;
-mod values;
-mod widths;
-mod words;
 
 use crate::reader::Reader;
 use libc::STDIN_FILENO;

@@ -1,8 +1,8 @@
 // The output: kept back until there may be no room for the next line, so that few lines cost a call of the system.
-use crate::text::Text;
-use crate::text::append;
-use crate::text::first;
 use libc::STDOUT_FILENO;
+use probing::text::Text;
+use probing::text::append;
+use probing::text::first;
 
 const ROOM: usize = 4096;
 

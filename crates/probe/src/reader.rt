@@ -2,11 +2,11 @@
 use crate::look::look;
 use crate::obey::obey;
 use crate::out::Out;
-use crate::text::Text;
-use crate::text::first;
-use crate::words::next_of;
-use crate::words::same;
 use model::State;
+use probing::text::Text;
+use probing::text::first;
+use probing::words::next_of;
+use probing::words::same;
 
 pub(crate) struct Reader {
     state: State,

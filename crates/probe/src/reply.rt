@@ -1,11 +1,11 @@
 // The reply to a line: what a call answered, and what is printed of it.
-use crate::text::Text;
 use model::Answer;
 use model::Answered;
 use model::Mean;
 use model::Refusal;
 use model::State;
 use model::Totals;
+use probing::text::Text;
 
 // What is printed, and the state at hand afterwards.
 pub(crate) struct Reply {

@@ -55,8 +55,8 @@ fn step(replay: Replaying, input: &[u8], output: &mut [u8]) -> Stepped {
 // a refused first line end the program. Nothing says that an input ends, and a proved loop has to: so the turns are counted down, from a number that no run
 // uses up.
 fn main() {
-    let mut input = [0u8; 16384];
-    let mut output = [0u8; 327680];
+    let mut input = [0u8; 32768];
+    let mut output = [0u8; 655360];
     let mut replay = feeding::start();
     let mut turns = u64::MAX;
     while turns > 0 {

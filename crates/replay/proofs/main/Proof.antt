@@ -8,7 +8,7 @@ use Rattle.replay.proofs.main.Statement.{statement}
 use Rattle.replay.proofs.main.Tie as tie
 
 abbrev Inv-loop : tie.InvT-loop
-Inv-loop input₀ output₀ replay₀ turns₀ input output replay turns = (length input ≡ 16384) × (length output ≡ 327680)
+Inv-loop input₀ output₀ replay₀ turns₀ input output replay turns = (length input ≡ 32768) × (length output ≡ 655360)
 
 abbrev μ-loop : tie.MeasureT-loop
 μ-loop input₀ output₀ replay₀ turns₀ input output replay turns = turns
@@ -17,7 +17,7 @@ start-requires : tie.Need-start-requires Inv-loop μ-loop
 start-requires c κs = tt
 
 loop-holds : tie.Need-loop-holds Inv-loop μ-loop
-loop-holds c = (length-replicate {A = ℕ} 16384 0, length-replicate {A = ℕ} 327680 0)
+loop-holds c = (length-replicate {A = ℕ} 32768 0, length-replicate {A = ℕ} 655360 0)
 
 slice-aggregate-read : tie.Need-slice-aggregate-read Inv-loop μ-loop
 slice-aggregate-read c = search needs

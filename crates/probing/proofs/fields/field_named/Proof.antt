@@ -1,8 +1,8 @@
 -- `fields::field_named` is safe and ends. Assumes nothing.
 use Prim.Native.Nat.{_-_}
 use native.Mathlib.Omega.{arith}
-use Rattle.probe.proofs.fields.field_named.Statement.{statement}
-use Rattle.probe.proofs.fields.field_named.Tie as tie
+use Rattle.probing.proofs.fields.field_named.Statement.{statement}
+use Rattle.probing.proofs.fields.field_named.Tie as tie
 
 abbrev Inv-loop : tie.InvT-loop
 Inv-loop word k₀ k = Unit {0}

@@ -126,7 +126,7 @@ fn in_buckets(buckets: Buckets, field: Field, i: usize, v: u64) -> Buckets {
 }
 
 // The state with v in a field at an index; the state as it is where the field has no such index.
-pub(crate) fn put(state: State, field: Field, i: usize, v: u64) -> State {
+pub fn put(state: State, field: Field, i: usize, v: u64) -> State {
     let mut next = state;
     match field {
         Field::Clock => next.clock = narrow(v),

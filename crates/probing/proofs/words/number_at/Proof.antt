@@ -2,8 +2,8 @@
 -- Assumes nothing.
 use Prim.Native.Nat.{_-_, _≤_}
 use native.Mathlib.Omega.{arith}
-use Rattle.probe.proofs.words.number_at.Statement.{statement}
-use Rattle.probe.proofs.words.number_at.Tie as tie
+use Rattle.probing.proofs.words.number_at.Statement.{statement}
+use Rattle.probing.proofs.words.number_at.Tie as tie
 
 abbrev Inv-loop : tie.InvT-loop
 Inv-loop line at limit end v₀ i₀ v i = v ≤ limit

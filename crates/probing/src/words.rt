@@ -1,21 +1,20 @@
 // Words of a line: where they end, whether two are the same, and what a number or a hex digit is worth.
 use crate::widths::wide;
-ghost use Prim.Native.Nat.{_≤_};
+ghost use Prim.Native.Nat.{_+_, _-_, _≤_};
 ghost use lib.ListN.{length};
 
 // The largest number of 32 bits.
-pub(crate) const LAST_32: u64 = 4294967295;
+pub const LAST_32: u64 = 4294967295;
 
 // A number and the place past the byte that ends its word; or nothing, where there is no such number.
-pub(crate) enum Value {
+pub enum Value {
     Is(u64, usize),
     Nothing,
 }
 
-// The place of the first byte b from a place on, or the end.
-pub(crate) fn next_of(bytes: &[u8], from: usize, b: u8) -> usize
-    requires { ⌜ from ≤ length (now bytes) ⌝ }
-    ensures { λ r. ⌜ (from ≤ r) × (r ≤ length (now (bytes .entry))) ⌝ }
+// The place of the first byte b from a place on, or the end: at or after the place where that is within the bytes.
+pub fn next_of(bytes: &[u8], from: usize, b: u8) -> usize
+    ensures { λ r. ⌜ (r ≤ length (now (bytes .entry))) × (from ≤ r + (from - length (now (bytes .entry)))) ⌝ }
 {
     let mut i = from;
     while i < bytes.len() {
@@ -24,10 +23,10 @@ pub(crate) fn next_of(bytes: &[u8], from: usize, b: u8) -> usize
         }
         i += 1;
     }
-    i
+    bytes.len()
 }
 
-pub(crate) fn same(a: &[u8], b: &[u8]) -> bool {
+pub fn same(a: &[u8], b: &[u8]) -> bool {
     if a.len() != b.len() {
         return false;
     }
@@ -53,7 +52,7 @@ fn digit_worth(b: u8) -> u64 {
 }
 
 // What a hex digit, a capital, is worth, and 16 for any other byte.
-pub(crate) fn hex_worth(b: u8) -> u64 {
+pub fn hex_worth(b: u8) -> u64 {
     if b < b'A' {
         return digit_worth(b);
     }
@@ -64,7 +63,7 @@ pub(crate) fn hex_worth(b: u8) -> u64 {
 }
 
 // The number at a place: no needless leading zero, at most `limit`. It ends at a space or at the end of the line.
-pub(crate) fn number_at(line: &[u8], at: usize, limit: u64) -> Value {
+pub fn number_at(line: &[u8], at: usize, limit: u64) -> Value {
     if line.len() <= at {
         return Value::Nothing;
     }

@@ -32,7 +32,7 @@ fn level_at(row: &[bool], i: usize) -> u64 {
     0
 }
 
-pub(crate) fn value_of(state: State, field: Field, i: usize) -> u64 {
+pub fn value_of(state: State, field: Field, i: usize) -> u64 {
     match field {
         Field::Sources => state.shape.sources as u64,
         Field::Contexts => state.shape.contexts as u64,

@@ -2,8 +2,8 @@
 use Prim.Native.Nat.{_-_}
 use native.Mathlib.Omega.{arith}
 use lib.ListN.{length}
-use Rattle.probe.proofs.words.same.Statement.{statement}
-use Rattle.probe.proofs.words.same.Tie as tie
+use Rattle.probing.proofs.words.same.Statement.{statement}
+use Rattle.probing.proofs.words.same.Tie as tie
 
 abbrev Inv-loop : tie.InvT-loop
 Inv-loop a b i₀ i = Unit {0}

@@ -4,8 +4,8 @@ use mathlib.Core.Path.{_≡_}
 use Prim.Native.Nat.{_-_}
 use native.Mathlib.Omega.{arith}
 use lib.ListN.{length}
-use Rattle.probe.proofs.text.append.Statement.{statement}
-use Rattle.probe.proofs.text.append.Tie as tie
+use Rattle.probing.proofs.text.append.Statement.{statement}
+use Rattle.probing.proofs.text.append.Tie as tie
 
 abbrev Inv-loop : tie.InvT-loop
 Inv-loop to₀ at part end₀ i₀ to end i = length to ≡ length to₀

@@ -3,8 +3,8 @@ use borrow.Author.Needs.{needs}
 use Prim.Native.Nat.{_-_}
 use native.Mathlib.Omega.{arith}
 use lib.ListN.{length}
-use Rattle.probe.proofs.kinds.of_pairs.Statement.{statement}
-use Rattle.probe.proofs.kinds.of_pairs.Tie as tie
+use Rattle.probing.proofs.kinds.of_pairs.Statement.{statement}
+use Rattle.probing.proofs.kinds.of_pairs.Tie as tie
 
 abbrev Inv-loop : tie.InvT-loop
 Inv-loop line from kinds₀ i₀ kinds i = Unit {0}

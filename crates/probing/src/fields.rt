@@ -6,7 +6,7 @@ use crate::words::same;
 ghost use Prim.Native.Nat.{_+_, _<_};
 ghost use Rattle.limits.specs.Limits.{sourceRoom, enableRoom};
 
-pub(crate) enum Field {
+pub enum Field {
     Sources,
     Contexts,
     Bits,
@@ -26,12 +26,12 @@ pub(crate) enum Field {
     BucketTicks,
 }
 
-pub(crate) enum Named {
+pub enum Named {
     Is(Field),
     Nothing,
 }
 
-pub(crate) const FIELDS: usize = 17;
+pub const FIELDS: usize = 17;
 
 // The last index of each kind of field.
 const LAST_SOURCE: u64 = limits::LAST_SOURCE as u64;
@@ -43,7 +43,7 @@ const LAST_ENABLE: u64 = limits::ENABLE_ROOM as u64 - 1;
 const LAST_BUCKET: u64 = limits::LAST_BUCKET as u64;
 
 // The field at a place of the order in which fields are shown.
-pub(crate) fn field_at(k: usize) -> Field {
+pub fn field_at(k: usize) -> Field {
     match k {
         0 => Field::Sources,
         1 => Field::Contexts,
@@ -65,7 +65,7 @@ pub(crate) fn field_at(k: usize) -> Field {
     }
 }
 
-pub(crate) fn with_name(text: Text, field: Field) -> Text {
+pub fn with_name(text: Text, field: Field) -> Text {
     match field {
         Field::Sources => text.with(b"sources"),
         Field::Contexts => text.with(b"contexts"),
@@ -93,7 +93,7 @@ fn is_named(field: Field, word: &[u8]) -> bool {
     same(first(&bytes, name.length), word)
 }
 
-pub(crate) fn field_named(word: &[u8]) -> Named {
+pub fn field_named(word: &[u8]) -> Named {
     let mut k = 0;
     while k < FIELDS {
         let field = field_at(k);
@@ -106,7 +106,7 @@ pub(crate) fn field_named(word: &[u8]) -> Named {
 }
 
 // The last index of a field. The bound is for the loop over the indices.
-pub(crate) fn last_index(field: Field) -> u64
+pub fn last_index(field: Field) -> u64
     ensures { λ r. ⌜ r < sourceRoom + enableRoom ⌝ }
 {
     match field {
@@ -118,7 +118,7 @@ pub(crate) fn last_index(field: Field) -> u64
     }
 }
 
-pub(crate) fn last_value(field: Field) -> u64 {
+pub fn last_value(field: Field) -> u64 {
     match field {
         Field::Line => 1,
         Field::Kind | Field::Stage | Field::Extra | Field::Priority | Field::Threshold =>

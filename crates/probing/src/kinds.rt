@@ -13,7 +13,7 @@ fn kind_of(letter: u8) -> u8 {
 }
 
 // The kinds that the letters l, e, c from a place to the end of the line stand for.
-pub(crate) fn of_letters(line: &[u8], from: usize) -> Text {
+pub fn of_letters(line: &[u8], from: usize) -> Text {
     let mut kinds = Text::empty();
     let mut i = from;
     while i < line.len() {
@@ -24,7 +24,7 @@ pub(crate) fn of_letters(line: &[u8], from: usize) -> Text {
 }
 
 // The bytes that the pairs of hex digits from a place to the end of the line stand for; none where that is not what is there.
-pub(crate) fn of_pairs(line: &[u8], from: usize) -> Text {
+pub fn of_pairs(line: &[u8], from: usize) -> Text {
     let mut kinds = Text::empty();
     let mut i = from;
     while i < line.len() {

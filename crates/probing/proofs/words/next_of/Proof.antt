@@ -1,12 +1,12 @@
--- `words::next_of` gives a place from `from` to the end. Assumes nothing.
+-- `words::next_of` gives a place within the bytes, and at or after `from` where that is within. Assumes nothing.
 use Prim.Native.Nat.{_-_, _≤_}
 use native.Mathlib.Omega.{arith}
 use lib.ListN.{length}
-use Rattle.probe.proofs.words.next_of.Statement.{statement}
-use Rattle.probe.proofs.words.next_of.Tie as tie
+use Rattle.probing.proofs.words.next_of.Statement.{statement}
+use Rattle.probing.proofs.words.next_of.Tie as tie
 
 abbrev Inv-loop : tie.InvT-loop
-Inv-loop bytes from b i₀ i = (from ≤ i) × (i ≤ length bytes)
+Inv-loop bytes from b i₀ i = from ≤ i
 
 abbrev μ-loop : tie.MeasureT-loop
 μ-loop bytes from b i₀ i = length bytes - i
