@@ -63,7 +63,11 @@ fn obey_line(
     start: &mut [u32; SOURCE_ROOM],
 ) -> Reply
     requires { ⌜ n ≤ lastSource ⌝ }
-    ensures { λ r. ⌜ (r ≡ stepReply (firstOf (lineGrounds steps n i)) clock steps clock Said.Nothing) × (requestsOf (now (stage .exit)) (now (line .exit)) (now (extra .exit)) (now (start .exit)) ≡ cond (eqb (firstOf (lineGrounds steps n i)) 0) (lineSet (getD (now (kind .entry)) i 0) clock level i (requestsOf (now (stage .entry)) (now (line .entry)) (now (extra .entry)) (now (start .entry)))) (requestsOf (now (stage .entry)) (now (line .entry)) (now (extra .entry)) (now (start .entry)))) ⌝ }
+    ensures { λ r. ⌜ (r ≡ stepReply (firstOf (lineGrounds steps n i)) clock steps clock Said.Nothing)
+        × (requestsOf (now (stage .exit)) (now (line .exit)) (now (extra .exit)) (now (start .exit))
+        ≡ cond (eqb (firstOf (lineGrounds steps n i)) 0) (lineSet (getD (now (kind .entry)) i 0) clock level i
+        (requestsOf (now (stage .entry)) (now (line .entry)) (now (extra .entry)) (now (start .entry))))
+        (requestsOf (now (stage .entry)) (now (line .entry)) (now (extra .entry)) (now (start .entry)))) ⌝ }
 {
     let check = line_check(steps, n, i);
     match check {
@@ -112,8 +116,15 @@ fn obey_read<'a>(
     bucket_claims: &mut [u32; BUCKET_ROOM],
     bucket_ticks: &mut [u64; BUCKET_ROOM],
 ) -> Reply
-    requires { ⌜ (n ≤ lastSource) × (m ≤ contextRoom) × (steps < 4294967295 → Bookable clock (now stage) (now start) (now claims) (now waited) (now «bucket_claims») (now «bucket_ticks»)) ⌝ }
-    ensures { λ r. ⌜ (r ≡ stepReply (firstOf (accessGrounds steps offset)) clock steps clock (Said.Value 82 (readIn n (now (stage .entry)) (now (priority .entry)) (now (enable .entry)) (now (threshold .entry)) (decode n m offset)))) × Claimed clock (cond (eqb (firstOf (accessGrounds steps offset)) 0) (claimedIn n (now (stage .entry)) (now (priority .entry)) (now (enable .entry)) (decode n m offset)) 0) (now (stage .entry)) (now (start .entry)) (now (stage .exit)) (now (start .exit)) (countsOf (now (claims .entry)) (now (waited .entry))) (countsOf (now (claims .exit)) (now (waited .exit))) (bucketsOf (now («bucket_claims» .entry)) (now («bucket_ticks» .entry))) (bucketsOf (now («bucket_claims» .exit)) (now («bucket_ticks» .exit))) ⌝ }
+    requires { ⌜ (n ≤ lastSource) × (m ≤ contextRoom) ×
+        (steps < 4294967295 → Bookable clock (now stage) (now start) (now claims) (now waited) (now «bucket_claims») (now «bucket_ticks»)) ⌝ }
+    ensures { λ r. ⌜ (r ≡ stepReply (firstOf (accessGrounds steps offset)) clock steps clock
+        (Said.Value 82 (readIn n (now (stage .entry)) (now (priority .entry)) (now (enable .entry)) (now (threshold .entry)) (decode n m offset))))
+        × Claimed clock (cond (eqb (firstOf (accessGrounds steps offset)) 0)
+        (claimedIn n (now (stage .entry)) (now (priority .entry)) (now (enable .entry)) (decode n m offset)) 0) (now (stage .entry))
+        (now (start .entry)) (now (stage .exit)) (now (start .exit)) (countsOf (now (claims .entry)) (now (waited .entry)))
+        (countsOf (now (claims .exit)) (now (waited .exit))) (bucketsOf (now («bucket_claims» .entry)) (now («bucket_ticks» .entry)))
+        (bucketsOf (now («bucket_claims» .exit)) (now («bucket_ticks» .exit))) ⌝ }
 {
     let check = access_check(steps, offset);
     match check {
@@ -161,7 +172,15 @@ fn obey_write<'a>(
     start: &mut [u32; SOURCE_ROOM],
 ) -> Reply
     requires { ⌜ (n ≤ lastSource) × (m ≤ contextRoom) × (b ≤ mostBits) ⌝ }
-    ensures { λ r. ⌜ (r ≡ stepReply (firstOf (accessGrounds steps offset)) clock steps clock Said.Nothing) × (settingsOf (now (priority .exit)) (now (enable .exit)) (now (threshold .exit)) ≡ cond (eqb (firstOf (accessGrounds steps offset)) 0) (settingsWritten n b (settingsOf (now (priority .entry)) (now (enable .entry)) (now (threshold .entry))) (decode n m offset) v) (settingsOf (now (priority .entry)) (now (enable .entry)) (now (threshold .entry)))) × (requestsOf (now (stage .exit)) (now (line .entry)) (now (extra .exit)) (now (start .exit)) ≡ cond (eqb (firstOf (accessGrounds steps offset)) 0) (requestsWritten n (now (enable .entry)) (now (kind .entry)) clock (requestsOf (now (stage .entry)) (now (line .entry)) (now (extra .entry)) (now (start .entry))) (decode n m offset) v) (requestsOf (now (stage .entry)) (now (line .entry)) (now (extra .entry)) (now (start .entry)))) ⌝ }
+    ensures { λ r. ⌜ (r ≡ stepReply (firstOf (accessGrounds steps offset)) clock steps clock Said.Nothing)
+        × (settingsOf (now (priority .exit)) (now (enable .exit)) (now (threshold .exit))
+        ≡ cond (eqb (firstOf (accessGrounds steps offset)) 0) (settingsWritten n b
+        (settingsOf (now (priority .entry)) (now (enable .entry)) (now (threshold .entry))) (decode n m offset) v)
+        (settingsOf (now (priority .entry)) (now (enable .entry)) (now (threshold .entry))))
+        × (requestsOf (now (stage .exit)) (now (line .entry)) (now (extra .exit)) (now (start .exit))
+        ≡ cond (eqb (firstOf (accessGrounds steps offset)) 0) (requestsWritten n (now (enable .entry)) (now (kind .entry)) clock
+        (requestsOf (now (stage .entry)) (now (line .entry)) (now (extra .entry)) (now (start .entry))) (decode n m offset) v)
+        (requestsOf (now (stage .entry)) (now (line .entry)) (now (extra .entry)) (now (start .entry)))) ⌝ }
 {
     let check = access_check(steps, offset);
     match check {
@@ -204,7 +223,12 @@ fn obey_notify<'a>(
     context: u32,
 ) -> Reply
     requires { ⌜ (n ≤ lastSource) × (m ≤ contextRoom) ⌝ }
-    ensures { λ r. ⌜ r ≡ record { clock = clock; steps = steps; said = notifySaid n m (now (stage .entry)) (now (priority .entry)) (now (enable .entry)) (now (threshold .entry)) context } ⌝ }
+    ensures { λ r. ⌜ r ≡ record {
+      clock = clock;
+      steps = steps;
+      said = notifySaid n m (now (stage .entry)) (now (priority .entry))
+          (now (enable .entry)) (now (threshold .entry)) context;
+    } ⌝ }
 {
     let check = context_check(m, context);
     match check {
@@ -248,9 +272,14 @@ pub(crate) fn obey(
     bucket_ticks: &mut [u64; BUCKET_ROOM],
 ) -> Reply
     ghost { State }
-    requires { λ s. ⌜ stateOf n m b (now kind) clock steps (settingsOf (now priority) (now enable) (now threshold)) (requestsOf (now stage) (now line) (now extra) (now start)) (countsOf (now claims) (now waited)) (bucketsOf (now «bucket_claims») (now «bucket_ticks»)) ≡ s ⌝ }
+    requires { λ s. ⌜ stateOf n m b (now kind) clock steps
+        (settingsOf (now priority) (now enable) (now threshold)) (requestsOf (now stage) (now line) (now extra) (now start))
+        (countsOf (now claims) (now waited)) (bucketsOf (now «bucket_claims») (now «bucket_ticks»)) ≡ s ⌝ }
     requires { λ s. ⌜ Sound s ⌝ }
-    ensures { λ s r. ⌜ Obeyed command s (stateOf n m b (now (kind .entry)) (r .clock) (r .steps) (settingsOf (now (priority .exit)) (now (enable .exit)) (now (threshold .exit))) (requestsOf (now (stage .exit)) (now (line .exit)) (now (extra .exit)) (now (start .exit))) (countsOf (now (claims .exit)) (now (waited .exit))) (bucketsOf (now («bucket_claims» .exit)) (now («bucket_ticks» .exit)))) (r .said) ⌝ }
+    ensures { λ s r. ⌜ Obeyed command s (stateOf n m b (now (kind .entry)) (r .clock) (r .steps)
+        (settingsOf (now (priority .exit)) (now (enable .exit)) (now (threshold .exit)))
+        (requestsOf (now (stage .exit)) (now (line .exit)) (now (extra .exit)) (now (start .exit)))
+        (countsOf (now (claims .exit)) (now (waited .exit))) (bucketsOf (now («bucket_claims» .exit)) (now («bucket_ticks» .exit)))) (r .said) ⌝ }
 {
     match command {
         Command::Make(_, _, _, _) => refused(clock, steps, Refusal::Unreadable),

@@ -27,7 +27,16 @@ pub(crate) fn standing(
     written: usize,
 ) -> Progress
     requires { ⌜ length (now first) ≤ heldRoom ⌝ }
-    ensures { λ r. ⌜ r ≡ record { replay = record { place = place; state = state; begun = padded (now (first .entry) ++ now (more .entry)); count = length (take heldRoom (now (first .entry) ++ now (more .entry))) }; written = written } ⌝ }
+    ensures { λ r. ⌜ r ≡ record {
+      replay = record {
+        place = place;
+        state = state;
+        begun = padded
+            (now (first .entry) ++ now (more .entry));
+        count = length (take heldRoom (now (first .entry) ++ now (more .entry)));
+      };
+      written = written;
+    } ⌝ }
 {
     let line = joined(first, more);
     let bytes = line.bytes;

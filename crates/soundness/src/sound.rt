@@ -82,7 +82,8 @@ fn source_sound_at<'a>(
     i: usize,
 ) -> bool
     requires { ⌜ i < sourceRoom ⌝ }
-    ensures { λ r. ⌜ r ≡ soundSourceIn n most clock (now (kind .entry)) (now (priority .entry)) (now (stage .entry)) (now (line .entry)) (now (extra .entry)) (now (start .entry)) (now (claims .entry)) (now (waited .entry)) i ⌝ }
+    ensures { λ r. ⌜ r ≡ soundSourceIn n most clock (now (kind .entry)) (now (priority .entry)) (now (stage .entry)) (now (line .entry))
+        (now (extra .entry)) (now (start .entry)) (now (claims .entry)) (now (waited .entry)) i ⌝ }
 {
     let here = (1 <= i) & (i <= n as usize);
     let r = Request {
@@ -117,7 +118,8 @@ fn sources_sound<'a>(
     claims: &'a [u32; SOURCE_ROOM],
     waited: &'a [u32; SOURCE_ROOM],
 ) -> bool
-    ensures { λ r. ⌜ r ≡ allTo (soundSourceIn n most clock (now (kind .entry)) (now (priority .entry)) (now (stage .entry)) (now (line .entry)) (now (extra .entry)) (now (start .entry)) (now (claims .entry)) (now (waited .entry))) sourceRoom ⌝ }
+    ensures { λ r. ⌜ r ≡ allTo (soundSourceIn n most clock (now (kind .entry)) (now (priority .entry)) (now (stage .entry)) (now (line .entry))
+        (now (extra .entry)) (now (start .entry)) (now (claims .entry)) (now (waited .entry))) sourceRoom ⌝ }
 {
     let mut sound = true;
     let mut i: usize = 0;
@@ -262,7 +264,9 @@ fn sums_sound<'a>(
     bucket_claims: &'a [u32; BUCKET_ROOM],
     bucket_ticks: &'a [u64; BUCKET_ROOM],
 ) -> bool
-    ensures { λ r. ⌜ r ≡ (leb (sumTo (λ i. getD (now (claims .entry)) i 0) sourceRoom) steps && (eqb (sumTo (λ i. getD (now (claims .entry)) i 0) sourceRoom) (sumTo (λ k. getD (now («bucket_claims» .entry)) k 0) bucketRoom) && eqb (sumTo (λ i. getD (now (waited .entry)) i 0) sourceRoom) (sumTo (λ k. getD (now («bucket_ticks» .entry)) k 0) bucketRoom))) ⌝ }
+    ensures { λ r. ⌜ r ≡ (leb (sumTo (λ i. getD (now (claims .entry)) i 0) sourceRoom) steps &&
+        (eqb (sumTo (λ i. getD (now (claims .entry)) i 0) sourceRoom) (sumTo (λ k. getD (now («bucket_claims» .entry)) k 0) bucketRoom) && eqb
+        (sumTo (λ i. getD (now (waited .entry)) i 0) sourceRoom) (sumTo (λ k. getD (now («bucket_ticks» .entry)) k 0) bucketRoom))) ⌝ }
 {
     let claimed = source_total(claims);
     let ticks = source_total(waited);

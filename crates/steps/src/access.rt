@@ -39,7 +39,11 @@ pub fn read<'a>(
     bucket_ticks: &mut [u64; BUCKET_ROOM],
 ) -> u32
     requires { ⌜ (n ≤ lastSource) × Within n register × Bookable clock (now stage) (now start) (now claims) (now waited) (now «bucket_claims») (now «bucket_ticks») ⌝ }
-    ensures { λ r. ⌜ (r ≡ readIn n (now (stage .entry)) (now (priority .entry)) (now (enable .entry)) (now (threshold .entry)) register) × Claimed clock (claimedIn n (now (stage .entry)) (now (priority .entry)) (now (enable .entry)) register) (now (stage .entry)) (now (start .entry)) (now (stage .exit)) (now (start .exit)) (countsOf (now (claims .entry)) (now (waited .entry))) (countsOf (now (claims .exit)) (now (waited .exit))) (bucketsOf (now («bucket_claims» .entry)) (now («bucket_ticks» .entry))) (bucketsOf (now («bucket_claims» .exit)) (now («bucket_ticks» .exit))) ⌝ }
+    ensures { λ r. ⌜ (r ≡ readIn n (now (stage .entry)) (now (priority .entry)) (now (enable .entry)) (now (threshold .entry)) register)
+        × Claimed clock (claimedIn n (now (stage .entry)) (now (priority .entry)) (now (enable .entry)) register) (now (stage .entry))
+        (now (start .entry)) (now (stage .exit)) (now (start .exit)) (countsOf (now (claims .entry)) (now (waited .entry)))
+        (countsOf (now (claims .exit)) (now (waited .exit))) (bucketsOf (now («bucket_claims» .entry)) (now («bucket_ticks» .entry)))
+        (bucketsOf (now («bucket_claims» .exit)) (now («bucket_ticks» .exit))) ⌝ }
 {
     match register {
         Register::Priority(s) => value_of(priority[s]),
@@ -80,7 +84,11 @@ pub fn write<'a>(
     start: &mut [u32; SOURCE_ROOM],
 )
     requires { ⌜ (n ≤ lastSource) × (b ≤ mostBits) × Within n register ⌝ }
-    ensures { λ _. ⌜ (settingsOf (now (priority .exit)) (now (enable .exit)) (now (threshold .exit)) ≡ settingsWritten n b (settingsOf (now (priority .entry)) (now (enable .entry)) (now (threshold .entry))) register v) × (requestsOf (now (stage .exit)) (now (line .entry)) (now (extra .exit)) (now (start .exit)) ≡ requestsWritten n (now (enable .entry)) (now (kind .entry)) clock (requestsOf (now (stage .entry)) (now (line .entry)) (now (extra .entry)) (now (start .entry))) register v) ⌝ }
+    ensures { λ _. ⌜ (settingsOf (now (priority .exit)) (now (enable .exit)) (now (threshold .exit))
+        ≡ settingsWritten n b (settingsOf (now (priority .entry)) (now (enable .entry)) (now (threshold .entry))) register v)
+        × (requestsOf (now (stage .exit)) (now (line .entry)) (now (extra .exit)) (now (start .exit))
+        ≡ requestsWritten n (now (enable .entry)) (now (kind .entry)) clock
+        (requestsOf (now (stage .entry)) (now (line .entry)) (now (extra .entry)) (now (start .entry))) register v) ⌝ }
 {
     match register {
         Register::Priority(s) => {

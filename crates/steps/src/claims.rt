@@ -22,8 +22,10 @@ fn book(
     bucket_claims: &mut [u32; BUCKET_ROOM],
     bucket_ticks: &mut [u64; BUCKET_ROOM],
 )
-    requires { ⌜ (i < sourceRoom) × (getD (now claims) i 0 + 1 < 4294967296) × (getD (now waited) i 0 + w < 4294967296) × (getD (now «bucket_claims») (bucketOf w) 0 + 1 < 4294967296) × (getD (now «bucket_ticks») (bucketOf w) 0 + w < 18446744073709551616) ⌝ }
-    ensures { λ _. ⌜ (countsOf (now (claims .exit)) (now (waited .exit)) ≡ counted (countsOf (now (claims .entry)) (now (waited .entry))) i w) × (bucketsOf (now («bucket_claims» .exit)) (now («bucket_ticks» .exit)) ≡ booked (bucketsOf (now («bucket_claims» .entry)) (now («bucket_ticks» .entry))) w) ⌝ }
+    requires { ⌜ (i < sourceRoom) × (getD (now claims) i 0 + 1 < 4294967296) × (getD (now waited) i 0 + w < 4294967296)
+        × (getD (now «bucket_claims») (bucketOf w) 0 + 1 < 4294967296) × (getD (now «bucket_ticks») (bucketOf w) 0 + w < 18446744073709551616) ⌝ }
+    ensures { λ _. ⌜ (countsOf (now (claims .exit)) (now (waited .exit)) ≡ counted (countsOf (now (claims .entry)) (now (waited .entry))) i w)
+        × (bucketsOf (now («bucket_claims» .exit)) (now («bucket_ticks» .exit)) ≡ booked (bucketsOf (now («bucket_claims» .entry)) (now («bucket_ticks» .entry))) w) ⌝ }
 {
     let k = bucket_of(w);
     claims[i] += 1;
@@ -47,7 +49,10 @@ pub(crate) fn claim(
     bucket_ticks: &mut [u64; BUCKET_ROOM],
 ) -> usize
     requires { ⌜ (n < sourceRoom) × (c < contextRoom) × Bookable clock (now stage) (now start) (now claims) (now waited) (now «bucket_claims») (now «bucket_ticks») ⌝ }
-    ensures { λ w. ⌜ (w ≡ winnerIn n (now (stage .entry)) (now (priority .entry)) (now (enable .entry)) c) × (w < sourceRoom) × Claimed clock w (now (stage .entry)) (now (start .entry)) (now (stage .exit)) (now (start .exit)) (countsOf (now (claims .entry)) (now (waited .entry))) (countsOf (now (claims .exit)) (now (waited .exit))) (bucketsOf (now («bucket_claims» .entry)) (now («bucket_ticks» .entry))) (bucketsOf (now («bucket_claims» .exit)) (now («bucket_ticks» .exit))) ⌝ }
+    ensures { λ w. ⌜ (w ≡ winnerIn n (now (stage .entry)) (now (priority .entry)) (now (enable .entry)) c) × (w < sourceRoom)
+        × Claimed clock w (now (stage .entry)) (now (start .entry)) (now (stage .exit)) (now (start .exit))
+        (countsOf (now (claims .entry)) (now (waited .entry))) (countsOf (now (claims .exit)) (now (waited .exit)))
+        (bucketsOf (now («bucket_claims» .entry)) (now («bucket_ticks» .entry))) (bucketsOf (now («bucket_claims» .exit)) (now («bucket_ticks» .exit))) ⌝ }
 {
     let w = winner(stage, priority, enable, n, c);
     if w == 0 {

@@ -25,7 +25,8 @@ pub fn set_line(
     start: &mut [u32; SOURCE_ROOM],
 )
     requires { ⌜ i < sourceRoom ⌝ }
-    ensures { λ _. ⌜ requestsOf (now (stage .exit)) (now (line .exit)) (now (extra .exit)) (now (start .exit)) ≡ lineSet kind clock level i (requestsOf (now (stage .entry)) (now (line .entry)) (now (extra .entry)) (now (start .entry))) ⌝ }
+    ensures { λ _. ⌜ requestsOf (now (stage .exit)) (now (line .exit)) (now (extra .exit)) (now (start .exit))
+        ≡ lineSet kind clock level i (requestsOf (now (stage .entry)) (now (line .entry)) (now (extra .entry)) (now (start .entry))) ⌝ }
 {
     let r = line_changed(
         kind,
@@ -55,7 +56,8 @@ fn complete(
     start: &mut [u32; SOURCE_ROOM],
 )
     requires { ⌜ i < sourceRoom ⌝ }
-    ensures { λ _. ⌜ requestsOf (now (stage .exit)) (now (line .entry)) (now (extra .exit)) (now (start .exit)) ≡ completedAt kind clock i (requestsOf (now (stage .entry)) (now (line .entry)) (now (extra .entry)) (now (start .entry))) ⌝ }
+    ensures { λ _. ⌜ requestsOf (now (stage .exit)) (now (line .entry)) (now (extra .exit)) (now (start .exit))
+        ≡ completedAt kind clock i (requestsOf (now (stage .entry)) (now (line .entry)) (now (extra .entry)) (now (start .entry))) ⌝ }
 {
     let r = completed(
         kind,
@@ -86,7 +88,8 @@ pub(crate) fn complete_by(
     start: &mut [u32; SOURCE_ROOM],
 )
     requires { ⌜ (n < sourceRoom) × (c < contextRoom) ⌝ }
-    ensures { λ _. ⌜ requestsOf (now (stage .exit)) (now (line .entry)) (now (extra .exit)) (now (start .exit)) ≡ completedBy n (now (enable .entry)) (now (kind .entry)) clock c v (requestsOf (now (stage .entry)) (now (line .entry)) (now (extra .entry)) (now (start .entry))) ⌝ }
+    ensures { λ _. ⌜ requestsOf (now (stage .exit)) (now (line .entry)) (now (extra .exit)) (now (start .exit))
+        ≡ completedBy n (now (enable .entry)) (now (kind .entry)) clock c v (requestsOf (now (stage .entry)) (now (line .entry)) (now (extra .entry)) (now (start .entry))) ⌝ }
 {
     if v < 1 {
         return;

@@ -13,10 +13,15 @@ append-requires : tie.Need-append-requires
 append-requires c κs = search needs
 
 append-requires-2 : tie.Need-append-requires-2
-append-requires-2 c κs = omega (arith, c .before .append .ensures .1, length-take heldRoom (c .before .before .before .before .before .args .first .now), min-le-left heldRoom (length (c .before .before .before .before .before .args .first .now)))
+append-requires-2 c κs =
+    let start = c .before .before .before .before .before in
+    omega (arith, c .before .append .ensures .1, length-take heldRoom (start .args .first .now), min-le-left heldRoom (length (start .args .first .now)))
 
 returns : tie.Need-returns
-returns c = joined-is (c .before .before .before .before .before .before .args .first .now) (c .before .before .before .before .before .before .args .more .now) (c .before .before .append .last .0) (c .append2 .last .0) (c .before .before .append .result) (c .append2 .result) (c .before .before .before .before .before .before .pre) (c .before .before .append .ensures .0) (c .before .before .append .ensures .1) (c .append2 .ensures .0) (c .append2 .ensures .1)
+returns c =
+    let start = c .before .before .before .before .before .before in
+    joined-is (start .args .first .now) (start .args .more .now) (c .before .before .append .last .0) (c .append2 .last .0) (c .before .before .append .result)
+    (c .append2 .result) (start .pre) (c .before .before .append .ensures .0) (c .before .before .append .ensures .1) (c .append2 .ensures .0) (c .append2 .ensures .1)
 
 pub joined-spec : {M : Type 1} → statement M
 joined-spec = tie.close (tie.spec append-requires append-requires-2 returns)

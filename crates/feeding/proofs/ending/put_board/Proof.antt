@@ -35,13 +35,18 @@ same-length c = search needs
 returns : tie.Need-returns
 unfolding valuesOf boardClaims boardWaited boardOpen sourceClaims sourceWaited openAge isPending request openAgeIn
 returns c =
-    let a = c .before .before .before .before .before .before .before .before .before .before .before .before .before .before .before .before .args in
+    let at-wide = c .before .before .before .before in
+    let at-open-total = at-wide .before in
+    let at-source-total2 = at-open-total .before .before .before .before in
+    let at-source-total = at-source-total2 .before .before .before in
+    let start = at-source-total .before .before .before .before in
+    let a = start .args in
     let s = a .t1 in
     let out′ = c .before .before .put-totals .last .1 .1 .1 .1 .0 in
-    let values : c .before .before .before .before .wide .result ∷ c .before .before .before .before .before .before .before .before .before .before .before .before .source-total .result ∷ c .before .before .before .before .before .before .before .before .before .source-total2 .result ∷ c .before .before .before .before .before .open-total .result ∷ [] ≡ valuesOf totals s =
-    λ i. c .before .before .before .before .wide .ensures .0 i ∷ c .before .before .before .before .before .before .before .before .before .before .before .before .source-total .ensures i ∷ c .before .before .before .before .before .before .before .before .before .source-total2 .ensures i ∷ c .before .before .before .before .before .open-total .ensures i ∷ [] in
+    let values : at-wide .wide .result ∷ at-source-total .source-total .result ∷ at-source-total2 .source-total2 .result ∷ at-open-total .open-total .result ∷ [] ≡ valuesOf totals s =
+    λ i. at-wide .wide .ensures .0 i ∷ at-source-total .source-total .ensures i ∷ at-source-total2 .source-total2 .ensures i ∷ at-open-total .open-total .ensures i ∷ [] in
     subst (λ (l : List ℕ). Written (a .output .now) out′ (a .at) (c .before .before .put-totals .result) (totalsLine l)) values
-    (written-put 128 _ (a .output .now) out′ (a .at) (c .before .before .put-totals .result) (c .before .before .before .before .before .before .before .before .before .before .before .before .before .before .before .before .pre) (c .before .before .put-totals .ensures))
+    (written-put 128 _ (a .output .now) out′ (a .at) (c .before .before .put-totals .result) (start .pre) (c .before .before .put-totals .ensures))
 
 pub put-board-spec : {M : Type 1} → statement M
 put-board-spec =

@@ -57,11 +57,18 @@ same-length-2 c = search needs
 
 returns-2 : tie.Need-returns-2
 unfolding standOf closing
-returns-2 c = stood (c .before .before .before .before .before .before .before .args .replay) (c .before .before .before .before .before .before .before .args .output .now) (c .before .before .put-board .last .1 .0) (c .before .before .before .before .before .before .before .args .at) (c .before .before .put-board .result) (c .before .before .before .before .enum-told2 .given .1) (c .before .before .put-board .ensures)
+returns-2 c =
+    let at-enum-told2 = c .before .before .before .before in
+    let start = at-enum-told2 .before .before .before in
+    stood (start .args .replay) (start .args .output .now) (c .before .before .put-board .last .1 .0) (start .args .at) (c .before .before .put-board .result)
+    (at-enum-told2 .enum-told2 .given .1) (c .before .before .put-board .ensures)
 
 returns-3 : tie.Need-returns-3
 unfolding standOf closing
-returns-3 c = stood (c .before .before .before .args .replay) (c .before .before .before .args .output .now) (c .before .before .before .args .output .now) (c .before .before .before .args .at) (c .before .before .before .args .at) (c .enum-told3 .given .1) (record { bytes = refl; place = sym (add-zero (c .before .before .before .args .at)) })
+returns-3 c =
+    let start = c .before .before .before in
+    stood (start .args .replay) (start .args .output .now) (start .args .output .now) (start .args .at) (start .args .at) (c .enum-told3 .given .1)
+    (record { bytes = refl; place = sym (add-zero (start .args .at)) })
 
 pub put-closing-spec : {M : Type 1} → statement M
 put-closing-spec =

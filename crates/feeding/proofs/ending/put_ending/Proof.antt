@@ -29,7 +29,11 @@ same-length : tie.Need-same-length
 same-length c = search needs
 
 returns : tie.Need-returns
-returns c = subst (Written (c .before .before .before .before .before .before .before .args .output .now) (c .before .before .put-closing .last .1 .0) 0 (c .before .before .put-closing .result)) (sym (ending-none (c .before .before .before .before .before .before .before .args .replay) (c .before .before .before .before .if1 .taken))) (c .before .before .put-closing .ensures)
+returns c =
+    let at-if1 = c .before .before .before .before in
+    let start = at-if1 .before .before .before in
+    subst (Written (start .args .output .now) (c .before .before .put-closing .last .1 .0) 0 (c .before .before .put-closing .result))
+    (sym (ending-none (start .args .replay) (at-if1 .if1 .taken))) (c .before .before .put-closing .ensures)
 
 slice-aggregate-feed-part : tie.Need-slice-aggregate-feed-part
 slice-aggregate-feed-part c = search needs
@@ -38,20 +42,29 @@ feed-part-requires : tie.Need-feed-part-requires
 feed-part-requires c κs = search needs
 
 put-closing-requires-2 : tie.Need-put-closing-requires-2
-put-closing-requires-2 c κs = omega (arith, c .before .before .before .before .before .before .before .before .before .pre .1, c .before .before .before .feed-part .ensures .prints .place, one-short (c .before .before .before .before .before .before .before .before .before .args .replay), written-length (c .before .before .before .feed-part .ensures .prints))
+put-closing-requires-2 c κs =
+    let at-feed-part = c .before .before .before in
+    let start = at-feed-part .before .before .before .before .before .before in
+    omega (arith, start .pre .1, at-feed-part .feed-part .ensures .prints .place, one-short (start .args .replay), written-length (at-feed-part .feed-part .ensures .prints))
 
 same-length-2 : tie.Need-same-length-2
 same-length-2 c = search needs
 
 returns-2 : tie.Need-returns-2
 returns-2 c =
-    let r = c .before .before .before .before .before .before .before .before .before .before .before .before .args .replay in
-    let f = c .before .before .before .before .before .before .feed-part .ensures in
+    let at-feed-part = c .before .before .before .before .before .before in
+    let at-if1 = at-feed-part .before .before .before in
+    let at-before = at-if1 .before .before in
+    let start = at-before .before in
+    let r = start .args .replay in
+    let f = at-feed-part .feed-part .ensures in
     let out′ = c .before .before .put-closing2 .last .1 .0 in
     let fed = fedAll (shown r) (10 ∷ []) in
     let stands = ap (λ (k : Replaying). standOf (k .place) (k .state)) (f .holds) ∙ paused-stands (fed .stand) (fed .begun) in
-    subst (Written (c .before .before .before .before .before .before .before .before .before .before .before .before .args .output .now) out′ 0 (c .before .before .put-closing2 .result)) (ending-line r (c .before .before .before .before .before .before .before .before .before .if1 .left) (held-length (c .before .before .before .before .before .before .before .before .before .before .before .before)))
-    (written-then (f .prints) (subst (λ (p : Stand). Written (c .before .before .before .before .before .before .feed-part .last .1 .1 .0) out′ (c .before .before .before .before .before .before .feed-part .result .written) (c .before .before .put-closing2 .result) (closing p)) stands (c .before .before .put-closing2 .ensures)))
+    subst (Written (start .args .output .now) out′ 0 (c .before .before .put-closing2 .result)) (ending-line r (at-if1 .if1 .left) (held-length (start)))
+    (written-then (f .prints) (subst
+    (λ (p : Stand). Written (at-feed-part .feed-part .last .1 .1 .0) out′ (at-feed-part .feed-part .result .written) (c .before .before .put-closing2 .result)
+    (closing p)) stands (c .before .before .put-closing2 .ensures)))
 
 pub put-ending-spec : {M : Type 1} → statement M
 put-ending-spec =

@@ -12,21 +12,27 @@ use Rattle.feeding.proofs.lines.feed_lines.Statement.{statement}
 use Rattle.feeding.proofs.lines.feed_lines.Tie as tie
 
 abbrev Inv-loop : tie.InvT-loop
-Inv-loop input output₀ from n m b kind clock₀ steps₀ priority₀ enable₀ threshold₀ stage₀ line₀ extra₀ start₀ claims₀ waited₀ bucket-claims₀ bucket-ticks₀ at₀ written₀ end₀ output clock steps priority enable threshold stage line extra start claims waited bucket-claims bucket-ticks at written end =
+Inv-loop input output₀ from n m b kind clock₀ steps₀ priority₀ enable₀ threshold₀ stage₀ line₀ extra₀ start₀ claims₀ waited₀ bucket-claims₀ bucket-ticks₀
+    at₀ written₀ end₀ output clock steps priority enable threshold stage line extra start claims waited bucket-claims bucket-ticks at written end =
     Going
-    (stateOf n m b kind clock₀ steps₀ (settingsOf priority₀ enable₀ threshold₀) (requestsOf stage₀ line₀ extra₀ start₀) (countsOf claims₀ waited₀) (bucketsOf bucket-claims₀ bucket-ticks₀))
-    (stateOf n m b kind clock steps (settingsOf priority enable threshold) (requestsOf stage line extra start) (countsOf claims waited) (bucketsOf bucket-claims bucket-ticks))
+    (stateOf n m b kind clock₀ steps₀ (settingsOf priority₀ enable₀ threshold₀)
+    (requestsOf stage₀ line₀ extra₀ start₀) (countsOf claims₀ waited₀) (bucketsOf bucket-claims₀ bucket-ticks₀))
+    (stateOf n m b kind clock steps (settingsOf priority enable threshold)
+    (requestsOf stage line extra start) (countsOf claims waited) (bucketsOf bucket-claims bucket-ticks))
     input output₀ output from at written end
 
 abbrev μ-loop : tie.MeasureT-loop
-μ-loop input output₀ from n m b kind clock₀ steps₀ priority₀ enable₀ threshold₀ stage₀ line₀ extra₀ start₀ claims₀ waited₀ bucket-claims₀ bucket-ticks₀ at₀ written₀ end₀ output clock steps priority enable threshold stage line extra start claims waited bucket-claims bucket-ticks at written end =
+μ-loop input output₀ from n m b kind clock₀ steps₀ priority₀ enable₀ threshold₀ stage₀ line₀ extra₀ start₀ claims₀ waited₀ bucket-claims₀ bucket-ticks₀
+    at₀ written₀ end₀ output clock steps priority enable threshold stage line extra start claims waited bucket-claims bucket-ticks at written end =
     length input - at
 
 line-end-requires : tie.Need-line-end-requires Inv-loop μ-loop
 line-end-requires c κs = search needs
 
 loop-holds : tie.Need-loop-holds Inv-loop μ-loop
-loop-holds c = going-start _ (c .before .before .before .before .before .before .before .before .before .before .before .before .before .before .before .args .input .now) (c .before .before .before .before .before .before .before .before .before .before .before .before .before .before .before .args .output .now) (c .before .before .before .before .before .before .before .before .before .before .before .before .before .before .before .args .from) _ (c .before .before .before .before .before .before .before .before .before .before .before .before .before .before .before .pre .0) (c .before .before .before .before .before .before .before .before .before .before .before .before .before .before .before .pre .1) (c .line-end .ensures)
+loop-holds c =
+    let start = c .before .before .before .before .before .before .before .before .before .before .before .before .before .before .before in
+    going-start _ (start .args .input .now) (start .args .output .now) (start .args .from) _ (start .pre .0) (start .pre .1) (c .line-end .ensures)
 
 sub-parse : tie.Need-sub-parse Inv-loop μ-loop
 sub-parse c = omega (arith, c .before .loop .inv .ends)
@@ -47,18 +53,29 @@ put-said-requires : tie.Need-put-said-requires Inv-loop μ-loop
 put-said-requires c κs = search needs
 
 add-at : tie.Need-add-at Inv-loop μ-loop
-add-at c = omega (arith, c .before .before .before .before .before .before .before .before .before .before .before .before .before .before .before .before .before .before .before .loop-test .taken, c .before .before .before .before .before .before .before .before .before .before .before .before .before .before .before .before .before .before .before .before .before .before .before .before .before .before .before .before .before .before .before .before .before .before .before .before .good .1 .0)
+add-at c =
+    let at-loop-test = c .before .before .before .before .before .before .before .before .before .before .before .before .before .before .before .before .before .before .before in
+    let start = at-loop-test .before .before .before .before .before .before .before .before .before .before .before .before .before .before .before .before .before in
+    omega (arith, at-loop-test .loop-test .taken, start .good .1 .0)
 
 line-end-requires-2 : tie.Need-line-end-requires-2 Inv-loop μ-loop
 line-end-requires-2 c κs = search needs
 
 loop-less : tie.Need-loop-less Inv-loop μ-loop
-loop-less c = omega (arith, c .before .before .before .before .before .before .before .before .before .before .before .before .before .before .before .before .before .before .before .before .loop-test .taken, c .before .before .before .before .before .before .before .before .before .before .before .before .before .before .before .before .before .before .before .before .before .loop .inv .ends)
+loop-less c =
+    let at-loop-test = c .before .before .before .before .before .before .before .before .before .before .before .before .before .before .before .before .before .before .before .before in
+    let at-loop = at-loop-test .before in
+    omega (arith, at-loop-test .loop-test .taken, at-loop .loop .inv .ends)
 
 loop-again : tie.Need-loop-again Inv-loop μ-loop
 loop-again c =
-    going-line (c .before .before .before .before .before .before .before .before .before .before .before .before .before .before .before .before .before .before .before .before .before .loop .inv) (c .before .before .before .before .before .before .before .before .before .before .before .before .before .before .before .before .before .before .before .before .loop-test .taken) _ refl (c .before .before .before .before .before .before .before .before .before .before .before .before .before .before .before .before .before .before .parse .result) (c .before .before .before .before .before .before .before .before .before .before .before .before .before .before .before .before .before .before .parse .ensures) _ (c .before .before .before .before .before .obey .result .said) (c .before .before .before .before .before .obey .ensures)
-    _ (c .before .before .before .put-said .result) (c .before .before .before .put-said .ensures .0) (c .before .before .before .put-said .ensures .1) _ (c .line-end2 .result) refl (c .line-end2 .ensures)
+    let at-put-said = c .before .before .before in
+    let at-obey = at-put-said .before .before in
+    let at-parse = at-obey .before .before .before .before .before .before .before .before .before .before .before .before .before in
+    let at-loop-test = at-parse .before .before in
+    let at-loop = at-loop-test .before in
+    going-line (at-loop .loop .inv) (at-loop-test .loop-test .taken) _ refl (at-parse .parse .result) (at-parse .parse .ensures) _ (at-obey .obey .result .said) (at-obey .obey .ensures)
+    _ (at-put-said .put-said .result) (at-put-said .put-said .ensures .0) (at-put-said .put-said .ensures .1) _ (c .line-end2 .result) refl (c .line-end2 .ensures)
 
 slice-aggregate-standing : tie.Need-slice-aggregate-standing Inv-loop μ-loop
 slice-aggregate-standing c = search needs

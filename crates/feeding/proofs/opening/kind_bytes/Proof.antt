@@ -42,17 +42,26 @@ loop-less c = omega arith
 
 loop-again : tie.Need-loop-again Inv-loop μ-loop
 loop-again c =
-    let l = c .before .before .before .loop in
-    let a = c .before .before .before .before .before .args in
+    let at-loop = c .before .before .before in
+    let start = at-loop .before .before in
+    let l = at-loop .loop in
+    let a = start .args in
     let inside : l .count < length (drop (a .from) (a .line .now)) = omega (arith, l .inv .0, length-drop (a .from) (a .line .now), c .before .before .loop-test .taken) in
-    let byte = c .kind-byte .ensures ∙ ap kindByte (ap (λ (k : ℕ). getD (a .line .now) k 0) (l .inv .0) ∙ sym (getD-drop (a .from) (a .line .now) (l .count) 0)) in
-    (omega arith, kinds-more (drop (a .from) (a .line .now)) (l .bytes) (l .count) (c .kind-byte .result) inside (omega (arith, l .inv .3)) (l .inv .1) byte, omega arith, length-set (l .bytes) (l .count) (c .kind-byte .result) ∙ l .inv .3)
+    let byte = c .kind-byte .ensures ∙ ap kindByte (ap (λ (k : ℕ). getD (a .line .now) k 0) (l .inv .0) ∙ sym (getD-drop (a .from) (a .line .now) (l .count) 0)) in (
+      omega arith,
+      kinds-more (drop (a .from) (a .line .now)) (l .bytes) (l .count) (c .kind-byte .result) inside (omega (arith, l .inv .3))
+          (l .inv .1) byte,
+      omega arith,
+      length-set (l .bytes) (l .count) (c .kind-byte .result) ∙ l .inv .3,
+    )
 
 returns : tie.Need-returns Inv-loop μ-loop
 returns c =
+    let start = c .before .before .before in
     let l = c .before .loop in
-    let a = c .before .before .before .args in
-    let all : take (l .count) (drop (a .from) (a .line .now)) ≡ drop (a .from) (a .line .now) = take-all (l .count) (drop (a .from) (a .line .now)) (omega (arith, l .inv .0, length-drop (a .from) (a .line .now))) in
+    let a = start .args in
+    let all : take (l .count) (drop (a .from) (a .line .now)) ≡ drop (a .from) (a .line .now) = take-all (l .count) (drop (a .from) (a .line .now))
+    (omega (arith, l .inv .0, length-drop (a .from) (a .line .now))) in
     (l .inv .1 ∙ ap kindBytes all, l .inv .2)
 
 pub kind-bytes-spec : {M : Type 1} → statement M

@@ -18,12 +18,14 @@ use Rattle.feeding.proofs.pieces.feed.Tie as tie
 
 -- how many bytes are taken
 taken-is : (c : tie.Joined2) →
-    (take (c .if2 .n) (c .before .before .before .before .before .args .input .now) ≡ partOf (c .before .before .before .before .before .args .input .now) (c .before .before .before .before .before .args .output .now))
+    (take (c .if2 .n) (c .before .before .before .before .before .args .input .now) ≡ partOf (c .before .before .before .before .before .args .input .now)
+    (c .before .before .before .before .before .args .output .now))
     × (c .if2 .n ≤ length (c .before .before .before .before .before .args .input .now)) × (c .if2 .n ≤ length (c .before .before .before .before .before .args .output .now) / 20)
 unfolding partOf
 taken-is c =
-    let input = c .before .before .before .before .before .args .input .now in
-    let most = length (c .before .before .before .before .before .args .output .now) / 20 in
+    let start = c .before .before .before .before .before in
+    let input = start .args .input .now in
+    let most = length (start .args .output .now) / 20 in
     ⊎-elim
     (λ w. (
       ap (λ (k : ℕ). take k input) (w .1) ∙ take-length input ∙ sym (take-all most input (omega (arith, w .0 .taken))),
@@ -50,10 +52,13 @@ slice-aggregate-feed-part : tie.Need-slice-aggregate-feed-part
 slice-aggregate-feed-part c = taken-length (c .before)
 
 feed-part-requires : tie.Need-feed-part-requires
-feed-part-requires c κs = (
-  sym (c .before .before .before .before .is-fit .ensures) ∙ not-false _ (c .before .before .before .if1 .left),
-  omega (arith, sym (taken-length (c .before .before)), taken-most (c .before .before), div-add-mod (length (c .before .before .before .before .before .before .before .args .output .now)) 20),
-)
+feed-part-requires c κs =
+    let at-if1 = c .before .before .before in
+    let at-is-fit = at-if1 .before in
+    let start = at-is-fit .before .before .before in (
+      sym (at-is-fit .is-fit .ensures) ∙ not-false _ (at-if1 .if1 .left),
+      omega (arith, sym (taken-length (c .before .before)), taken-most (c .before .before), div-add-mod (length (start .args .output .now)) 20),
+    )
 
 same-length : tie.Need-same-length
 same-length c = search needs

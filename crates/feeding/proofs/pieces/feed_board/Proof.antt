@@ -138,7 +138,8 @@ returns-3 c =
     let first = c .before .before .before .before .before .before .before .before .before .feed-lines2 in
     let rest = c .before .before .feed-lines3 in
     feeds-board (a .state) (a .begun .now) (a .input .now) (a .output .now) (first .last .1 .1 .0) (rest .last .1 .1 .0) _ (e .before .line-end .result)
-    (first .result) (rest .result) (s .pre .2) (e .before .line-end .ensures) (e .if2 .left) (c .before .before .before .before .before .before .before .before .before .before .before .before .before .with-line-feed .ensures .0)
+    (first .result) (rest .result) (s .pre .2) (e .before .line-end .ensures) (e .if2 .left)
+    (c .before .before .before .before .before .before .before .before .before .before .before .before .before .with-line-feed .ensures .0)
     (first .ensures) (rest .ensures .feeds)
 
 pub feed-board-spec : {M : Type 1} → statement M

@@ -35,13 +35,17 @@ standing-requires c κs = search needs
 returns : tie.Need-returns
 unfolding paused
 returns c =
-    let a = c .before .before .before .before .before .before .before .args in
+    let at-line-end = c .before .before .before in
+    let start = at-line-end .before .before .before .before in
+    let a = start .args in
     let l = a .begun .now ++ a .input .now in
-    feeds-begun before (a .begun .now) (a .input .now) (a .output .now) (c .standing .result) (sym (c .before .before .before .line-end .ensures ∙ zero-add _) ∙ c .before .before .if1 .taken)
+    feeds-begun before (a .begun .now) (a .input .now) (a .output .now) (c .standing .result) (sym (at-line-end .line-end .ensures ∙ zero-add _) ∙ c .before .before .if1 .taken)
     (c .standing .ensures ∙ (λ i. record { replay = record { place = Before; state = c .before .zero .ensures i; begun = padded l; count = length (take heldRoom l) }; written = 0 }))
 
 slice-aggregate-joined : tie.Need-slice-aggregate-joined
-slice-aggregate-joined c = sym (length-take-le (c .before .before .line-end .result) (c .before .before .before .before .before .before .args .input .now) (omega (arith, c .before .before .line-end .ensures, line-most (c .before .before .before .before .before .before .args .input .now))))
+slice-aggregate-joined c =
+    let start = c .before .before .before .before .before .before in
+    sym (length-take-le (c .before .before .line-end .result) (start .args .input .now) (omega (arith, c .before .before .line-end .ensures, line-most (start .args .input .now))))
 
 joined-requires : tie.Need-joined-requires
 joined-requires c κs = search needs
@@ -59,30 +63,62 @@ slice-aggregate-open-board c =
 open-board-requires : tie.Need-open-board-requires
 open-board-requires c κs =
     let room = joined-room _ (c .before .before .joined .result) (c .before .before .joined .ensures) in
-    omega (arith, room .0, length-take (c .before .before .joined .result .count) (c .before .before .joined .result .bytes), min-le-left (c .before .before .joined .result .count) (length (c .before .before .joined .result .bytes)))
+    omega (
+      arith,
+      room .0,
+      length-take (c .before .before .joined .result .count) (c .before .before .joined .result .bytes),
+      min-le-left
+          (c .before .before .joined .result .count) (length (c .before .before .joined .result .bytes)),
+    )
 
 enum-told : tie.Need-enum-told
 enum-told c = search needs
 
 add-from : tie.Need-add-from
-add-from c = omega (arith, c .before .before .before .before .before .before .before .before .line-end .ensures, line-most (c .before .before .before .before .before .before .before .before .before .before .before .before .args .input .now), c .before .before .before .before .before .before .before .if1 .left, c .before .before .before .before .before .before .before .before .before .before .before .before .good .1 .0)
+add-from c =
+    let at-if1 = c .before .before .before .before .before .before .before in
+    let at-line-end = at-if1 .before in
+    let start = at-line-end .before .before .before .before in
+    omega (arith, at-line-end .line-end .ensures, line-most (start .args .input .now), at-if1 .if1 .left, start .good .1 .0)
 
 sub-feed-lines : tie.Need-sub-feed-lines
-sub-feed-lines c = omega (arith, c .before .before .before .before .before .before .before .before .before .line-end .ensures, line-most (c .before .before .before .before .before .before .before .before .before .before .before .before .before .args .input .now), c .before .before .before .before .before .before .before .before .if1 .left)
+sub-feed-lines c =
+    let at-if1 = c .before .before .before .before .before .before .before .before in
+    let at-line-end = at-if1 .before in
+    let start = at-line-end .before .before .before .before in
+    omega (arith, at-line-end .line-end .ensures, line-most (start .args .input .now), at-if1 .if1 .left)
 
 part-feed-lines-start : tie.Need-part-feed-lines-start
-part-feed-lines-start c = omega (arith, c .before .before .before .before .before .before .before .before .before .line-end .ensures, line-most (c .before .before .before .before .before .before .before .before .before .before .before .before .before .args .input .now), c .before .before .before .before .before .before .before .before .if1 .left)
+part-feed-lines-start c =
+    let at-if1 = c .before .before .before .before .before .before .before .before in
+    let at-line-end = at-if1 .before in
+    let start = at-line-end .before .before .before .before in
+    omega (arith, at-line-end .line-end .ensures, line-most (start .args .input .now), at-if1 .if1 .left)
 
 part-feed-lines-end : tie.Need-part-feed-lines-end
 part-feed-lines-end c = search needs
 
 feed-lines-requires : tie.Need-feed-lines-requires
 feed-lines-requires c κs =
-    let input = c .before .before .before .before .before .before .before .before .before .before .before .before .before .before .before .args .input .now in
-    let end = c .before .before .before .before .before .before .before .before .before .before .before .line-end .result in
+    let at-enum-told = c .before .before .before in
+    let at-open-board = at-enum-told .before .before in
+    let at-joined = at-open-board .before .before .before in
+    let at-line-end = at-joined .before .before .before in
+    let start = at-line-end .before .before .before .before in
+    let input = start .args .input .now in
+    let end = at-line-end .line-end .result in
     let rest = take (length input - (end + 1)) (drop (end + 1) input) in (
-      made-is-sound (c .before .before .before .before .before .before .before .before .before .before .before .before .before .before .before .args .begun .now ++ take (c .before .before .before .before .before .before .before .before .before .before .before .line-end .result) (c .before .before .before .before .before .before .before .before .before .before .before .before .before .before .before .args .input .now)) _ (c .before .before .before .before .before .open-board .result) (joined-cut _ (c .before .before .before .before .before .before .before .before .joined .result) (c .before .before .before .before .before .before .before .before .joined .ensures)) (c .before .before .before .before .before .open-board .ensures) (c .before .before .before .enum-told .given .0 .0) (c .before .before .before .enum-told .given .1),
-      omega (arith, c .before .before .before .before .before .before .before .before .before .before .before .before .before .before .before .pre .1, feeds-most rest, length-take (length input - (end + 1)) (drop (end + 1) input), min-le-left (length input - (end + 1)) (length (drop (end + 1) input))),
+      made-is-sound (start .args .begun .now ++ take (at-line-end .line-end .result) (start .args .input .now)) _ (at-open-board .open-board .result)
+          (joined-cut _ (at-joined .joined .result) (at-joined .joined .ensures)) (at-open-board .open-board .ensures) (at-enum-told .enum-told .given .0 .0)
+          (at-enum-told .enum-told .given .1),
+      omega (
+        arith,
+        start .pre .1,
+        feeds-most rest,
+        length-take (length input - (end + 1)) (drop (end + 1) input),
+        min-le-left (length input - (end + 1))
+            (length (drop (end + 1) input)),
+      ),
     )
 
 enum-known-answer : tie.Need-enum-known-answer
@@ -102,8 +138,17 @@ same-length c = search needs
 
 returns-2 : tie.Need-returns-2
 returns-2 c =
-    feeds-made (c .before .before .before .before .before .before .before .before .before .before .before .before .before .before .before .before .before .before .args .begun .now) (c .before .before .before .before .before .before .before .before .before .before .before .before .before .before .before .before .before .before .args .input .now) (c .before .before .before .before .before .before .before .before .before .before .before .before .before .before .before .before .before .before .args .output .now) (c .before .before .before .before .before .before .before .before .before .before .before .before .before .before .line-end .result) (c .before .before .before .before .before .before .before .before .open-board .result) (c .before .before .feed-lines .result) (c .before .before .before .before .before .before .before .before .before .before .before .before .before .before .line-end .ensures) (c .before .before .before .before .before .before .before .before .before .before .before .before .before .if1 .left) (c .before .before .feed-lines .last .1 .1 .0)
-    (told-made (c .before .before .before .before .before .before .before .before .before .before .before .before .before .before .before .before .before .before .args .begun .now ++ take (c .before .before .before .before .before .before .before .before .before .before .before .before .before .before .line-end .result) (c .before .before .before .before .before .before .before .before .before .before .before .before .before .before .before .before .before .before .args .input .now)) _ (c .before .before .before .before .before .before .before .before .open-board .result) (joined-cut _ (c .before .before .before .before .before .before .before .before .before .before .before .joined .result) (c .before .before .before .before .before .before .before .before .before .before .before .joined .ensures)) (c .before .before .before .before .before .before .before .before .open-board .ensures) (c .before .before .before .before .before .before .enum-told .given .0 .0) (c .before .before .before .before .before .before .enum-told .given .1))
+    let at-enum-told = c .before .before .before .before .before .before in
+    let at-open-board = at-enum-told .before .before in
+    let at-joined = at-open-board .before .before .before in
+    let at-if1 = at-joined .before .before in
+    let at-line-end = at-if1 .before in
+    let start = at-line-end .before .before .before .before in
+    feeds-made (start .args .begun .now) (start .args .input .now) (start .args .output .now) (at-line-end .line-end .result) (at-open-board .open-board .result)
+    (c .before .before .feed-lines .result) (at-line-end .line-end .ensures) (at-if1 .if1 .left) (c .before .before .feed-lines .last .1 .1 .0)
+    (told-made (start .args .begun .now ++ take (at-line-end .line-end .result) (start .args .input .now)) _ (at-open-board .open-board .result)
+    (joined-cut _ (at-joined .joined .result) (at-joined .joined .ensures)) (at-open-board .open-board .ensures) (at-enum-told .enum-told .given .0 .0)
+    (at-enum-told .enum-told .given .1))
     (c .before .before .feed-lines .ensures .feeds)
 
 same-length-2 : tie.Need-same-length-2
@@ -112,14 +157,25 @@ same-length-2 c = search needs
 returns-3 : tie.Need-returns-3
 unfolding saidBytes
 returns-3 c =
-    let a = c .before .before .before .before .before .before .before .before .before .before .before .before .before .before .before .before .before .before .before .args in
-    let why = c .before .before .before .before .before .before .before .answer .given .0 .0 in
-    let enough : 0 + 20 ≤ length (a .output .now) = omega (arith, c .before .before .before .before .before .before .before .before .before .before .before .before .before .before .before .before .before .before .before .pre .1, c .before .before .before .before .before .before .before .before .before .before .before .before .before .before .before .line-end .ensures, line-most (c .before .before .before .before .before .before .before .before .before .before .before .before .before .before .before .before .before .before .before .args .input .now), c .before .before .before .before .before .before .before .before .before .before .before .before .before .before .if1 .left) in
-    let said = written-put 20 (saidBytes (Refused (c .before .before .before .before .before .number-of .result))) (a .output .now) (c .before .before .before .put-said .last .1 .0) 0 (c .before .before .before .put-said .result) enough (c .before .before .before .put-said .ensures .0) in
-    feeds-unmade (a .begun .now) (a .input .now) (a .output .now) (c .before .before .before .before .before .before .before .before .before .before .before .before .before .before .before .line-end .result) (c .before .before .before .before .before .before .before .before .before .open-board .result) (c .at-end .result) (c .before .before .before .before .before .before .before .before .before .before .before .before .before .before .before .line-end .ensures) (c .before .before .before .before .before .before .before .before .before .before .before .before .before .before .if1 .left) (c .before .before .before .put-said .last .1 .0) (c .before .before .before .put-said .result) (numberOf why)
-    (told-unmade (c .before .before .before .before .before .before .before .before .before .before .before .before .before .before .before .before .before .before .before .args .begun .now ++ take (c .before .before .before .before .before .before .before .before .before .before .before .before .before .before .before .line-end .result) (c .before .before .before .before .before .before .before .before .before .before .before .before .before .before .before .before .before .before .before .args .input .now)) _ (c .before .before .before .before .before .before .before .before .before .open-board .result) (joined-cut _ (c .before .before .before .before .before .before .before .before .before .before .before .before .joined .result) (c .before .before .before .before .before .before .before .before .before .before .before .before .joined .ensures)) (c .before .before .before .before .before .before .before .before .before .open-board .ensures) why (c .before .before .before .before .before .before .before .answer .given .1))
-    (subst (λ (k : ℕ). Written (a .output .now) (c .before .before .before .put-said .last .1 .0) 0 (c .before .before .before .put-said .result) (refusedLine k)) (c .before .before .before .before .before .number-of .ensures) said)
-    (omega (arith, c .before .before .before .put-said .ensures .1)) (c .at-end .ensures)
+    let at-put-said = c .before .before .before in
+    let at-number-of = at-put-said .before .before in
+    let at-answer = at-number-of .before .before in
+    let at-open-board = at-answer .before .before in
+    let at-joined = at-open-board .before .before .before in
+    let at-if1 = at-joined .before .before in
+    let at-line-end = at-if1 .before in
+    let start = at-line-end .before .before .before .before in
+    let a = start .args in
+    let why = at-answer .answer .given .0 .0 in
+    let enough : 0 + 20 ≤ length (a .output .now) = omega (arith, start .pre .1, at-line-end .line-end .ensures, line-most (start .args .input .now), at-if1 .if1 .left) in
+    let said = written-put 20 (saidBytes (Refused (at-number-of .number-of .result))) (a .output .now) (at-put-said .put-said .last .1 .0) 0
+    (at-put-said .put-said .result) enough (at-put-said .put-said .ensures .0) in
+    feeds-unmade (a .begun .now) (a .input .now) (a .output .now) (at-line-end .line-end .result) (at-open-board .open-board .result) (c .at-end .result)
+    (at-line-end .line-end .ensures) (at-if1 .if1 .left) (at-put-said .put-said .last .1 .0) (at-put-said .put-said .result) (numberOf why)
+    (told-unmade (start .args .begun .now ++ take (at-line-end .line-end .result) (start .args .input .now)) _ (at-open-board .open-board .result)
+    (joined-cut _ (at-joined .joined .result) (at-joined .joined .ensures)) (at-open-board .open-board .ensures) why (at-answer .answer .given .1))
+    (subst (λ (k : ℕ). Written (a .output .now) (at-put-said .put-said .last .1 .0) 0 (at-put-said .put-said .result) (refusedLine k)) (at-number-of .number-of .ensures) said)
+    (omega (arith, at-put-said .put-said .ensures .1)) (c .at-end .ensures)
 
 pub feed-first-spec : {M : Type 1} → statement M
 feed-first-spec =

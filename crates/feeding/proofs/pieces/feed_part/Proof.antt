@@ -35,19 +35,28 @@ unfolding shown
 stood r input out out′ part e f = subst (λ (q : Place). Feeds (begunAt (standOf q (r .state)) (take (r .count) (r .begun))) input out out′ 0 part) (sym e) f
 
 array-share-prefix-begun : tie.Need-array-share-prefix-begun
-array-share-prefix-begun c = omega (arith, begun-room (c .before .before .before .before .before), fit-facts (c .before .before .before .before .before .args .replay) (c .before .before .before .before .before .pre .0) .0)
+array-share-prefix-begun c =
+    let at-before = c .before .before .before .before in
+    let start = at-before .before in
+    omega (arith, begun-room (start), fit-facts (start .args .replay) (start .pre .0) .0)
 
 slice-aggregate-feed-first : tie.Need-slice-aggregate-feed-first
 slice-aggregate-feed-first c = sym (held-length (c .before .before .before .before .before .before))
 
 feed-first-requires : tie.Need-feed-first-requires
-feed-first-requires c κs = (omega (arith, held-length (c .before .before .before .before .before .before .before), fit-facts (c .before .before .before .before .before .before .before .args .replay) (c .before .before .before .before .before .before .before .pre .0) .0), c .before .before .before .before .before .before .before .pre .1)
+feed-first-requires c κs =
+    let at-before = c .before .before .before .before .before .before in
+    let start = at-before .before in
+    (omega (arith, held-length (start), fit-facts (start .args .replay) (start .pre .0) .0), start .pre .1)
 
 enum-told-2 : tie.Need-enum-told-2
 enum-told-2 c = search needs
 
 array-share-prefix-begun-2 : tie.Need-array-share-prefix-begun-2
-array-share-prefix-begun-2 c = omega (arith, begun-room (c .before .before .before .before .before), fit-facts (c .before .before .before .before .before .args .replay) (c .before .before .before .before .before .pre .0) .0)
+array-share-prefix-begun-2 c =
+    let at-before = c .before .before .before .before in
+    let start = at-before .before in
+    omega (arith, begun-room (start), fit-facts (start .args .replay) (start .pre .0) .0)
 
 slice-aggregate-feed-board : tie.Need-slice-aggregate-feed-board
 slice-aggregate-feed-board c = sym (held-length (c .before .before .before .before .before .before))
@@ -55,11 +64,13 @@ slice-aggregate-feed-board c = sym (held-length (c .before .before .before .befo
 feed-board-requires : tie.Need-feed-board-requires
 unfolding boardSound
 feed-board-requires c κs =
-    let facts = fit-facts (c .before .before .before .before .before .before .before .args .replay) (c .before .before .before .before .before .before .before .pre .0) in (
-      sound-facts _ (subst (λ (p : Place). So (boardSound p (c .before .before .before .before .before .before .before .args .replay .state))) (c .before .before .enum-told2 .given .1) (facts .2)),
-      omega (arith, held-length (c .before .before .before .before .before .before .before), facts .0),
-      facts .1 ∙ sym (held-length (c .before .before .before .before .before .before .before)),
-      c .before .before .before .before .before .before .before .pre .1,
+    let at-before = c .before .before .before .before .before .before in
+    let start = at-before .before in
+    let facts = fit-facts (start .args .replay) (start .pre .0) in (
+      sound-facts _ (subst (λ (p : Place). So (boardSound p (start .args .replay .state))) (c .before .before .enum-told2 .given .1) (facts .2)),
+      omega (arith, held-length (start), facts .0),
+      facts .1 ∙ sym (held-length (start)),
+      start .pre .1,
     )
 
 enum-told-3 : tie.Need-enum-told-3
@@ -73,18 +84,29 @@ same-length c = search needs
 
 returns : tie.Need-returns
 unfolding standOf
-returns c = stood (c .before .before .before .before .before .before .before .before .before .before .args .replay) (c .before .before .before .before .before .before .before .before .before .before .args .input .now) (c .before .before .before .before .before .before .before .before .before .before .args .output .now) (c .before .before .feed-first .last .1 .1 .0) (c .before .before .feed-first .result) (c .before .before .before .before .before .enum-told .given .1) (c .before .before .feed-first .ensures)
+returns c =
+    let at-enum-told = c .before .before .before .before .before in
+    let start = at-enum-told .before .before .before .before .before in
+    stood (start .args .replay) (start .args .input .now) (start .args .output .now) (c .before .before .feed-first .last .1 .1 .0) (c .before .before .feed-first .result)
+    (at-enum-told .enum-told .given .1) (c .before .before .feed-first .ensures)
 
 same-length-2 : tie.Need-same-length-2
 same-length-2 c = search needs
 
 returns-2 : tie.Need-returns-2
 unfolding standOf
-returns-2 c = stood (c .before .before .before .before .before .before .before .before .before .before .args .replay) (c .before .before .before .before .before .before .before .before .before .before .args .input .now) (c .before .before .before .before .before .before .before .before .before .before .args .output .now) (c .before .before .feed-board .last .1 .1 .1 .0) (c .before .before .feed-board .result) (c .before .before .before .before .before .enum-told2 .given .1) (c .before .before .feed-board .ensures)
+returns-2 c =
+    let at-enum-told2 = c .before .before .before .before .before in
+    let start = at-enum-told2 .before .before .before .before .before in
+    stood (start .args .replay) (start .args .input .now) (start .args .output .now) (c .before .before .feed-board .last .1 .1 .1 .0) (c .before .before .feed-board .result)
+    (at-enum-told2 .enum-told2 .given .1) (c .before .before .feed-board .ensures)
 
 returns-3 : tie.Need-returns-3
 unfolding shown standOf
-returns-3 c = feeds-ended (shown (c .before .before .before .before .before .before .args .replay)) (c .before .before .before .before .before .before .args .input .now) (c .before .before .before .before .before .before .args .output .now) 0 (c .at-end .result) (ap (λ (p : Place). standOf p (c .before .before .before .before .before .before .args .replay .state)) (c .before .enum-told3 .given .1)) refl (c .at-end .ensures)
+returns-3 c =
+    let start = c .before .before .before .before .before .before in
+    feeds-ended (shown (start .args .replay)) (start .args .input .now) (start .args .output .now) 0 (c .at-end .result)
+    (ap (λ (p : Place). standOf p (start .args .replay .state)) (c .before .enum-told3 .given .1)) refl (c .at-end .ensures)
 
 pub feed-part-spec : {M : Type 1} → statement M
 feed-part-spec =

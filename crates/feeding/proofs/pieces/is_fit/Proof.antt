@@ -57,15 +57,31 @@ enum-told-3 c = search needs
 
 returns-3 : tie.Need-returns-3
 unfolding boardSound
-returns-3 c = sym (fit-board (c .before .before .before .before .before .before .before .args .replay) (c .before .before .before .before .before .if1 .left) (sym (c .before .before .before .line-end .ensures ∙ zero-add _) ∙ c .before .before .if2 .left) ∙ ap (λ (p : Place). boardSound p (c .before .before .before .before .before .before .before .args .replay .state)) (c .enum-told .given .1))
+returns-3 c =
+    let at-line-end = c .before .before .before in
+    let at-if1 = at-line-end .before .before in
+    let start = at-if1 .before .before in
+    sym (fit-board (start .args .replay) (at-if1 .if1 .left) (sym (at-line-end .line-end .ensures ∙ zero-add _) ∙ c .before .before .if2 .left) ∙ ap
+    (λ (p : Place). boardSound p (start .args .replay .state)) (c .enum-told .given .1))
 
 returns-4 : tie.Need-returns-4
 unfolding boardSound
-returns-4 c = c .is-sound .ensures ∙ sym (fit-board (c .before .before .before .before .before .before .before .before .args .replay) (c .before .before .before .before .before .before .if1 .left) (sym (c .before .before .before .before .line-end .ensures ∙ zero-add _) ∙ c .before .before .before .if2 .left) ∙ ap (λ (p : Place). boardSound p (c .before .before .before .before .before .before .before .before .args .replay .state)) (c .before .enum-told2 .given .1))
+returns-4 c =
+    let at-if2 = c .before .before .before in
+    let at-line-end = at-if2 .before in
+    let at-if1 = at-line-end .before .before in
+    let start = at-if1 .before .before in
+    c .is-sound .ensures ∙ sym (fit-board (start .args .replay) (at-if1 .if1 .left) (sym (at-line-end .line-end .ensures ∙ zero-add _) ∙ at-if2 .if2 .left) ∙ ap
+    (λ (p : Place). boardSound p (start .args .replay .state)) (c .before .enum-told2 .given .1))
 
 returns-5 : tie.Need-returns-5
 unfolding boardSound
-returns-5 c = sym (fit-board (c .before .before .before .before .before .before .before .args .replay) (c .before .before .before .before .before .if1 .left) (sym (c .before .before .before .line-end .ensures ∙ zero-add _) ∙ c .before .before .if2 .left) ∙ ap (λ (p : Place). boardSound p (c .before .before .before .before .before .before .before .args .replay .state)) (c .enum-told3 .given .1))
+returns-5 c =
+    let at-line-end = c .before .before .before in
+    let at-if1 = at-line-end .before .before in
+    let start = at-if1 .before .before in
+    sym (fit-board (start .args .replay) (at-if1 .if1 .left) (sym (at-line-end .line-end .ensures ∙ zero-add _) ∙ c .before .before .if2 .left) ∙ ap
+    (λ (p : Place). boardSound p (start .args .replay .state)) (c .enum-told3 .given .1))
 
 pub is-fit-spec : {M : Type 1} → statement M
 is-fit-spec =
