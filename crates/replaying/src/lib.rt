@@ -3,8 +3,8 @@
 mod lines;
 mod text;
 
-pub use lines::line_end;
 use limits::HELD_ROOM;
+pub use lines::line_end;
 use model::Answer;
 use model::Refusal;
 use model::State;

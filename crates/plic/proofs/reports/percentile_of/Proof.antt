@@ -49,14 +49,16 @@ element-copy-out-below c = omega arith
 add-below : tie.Need-add-below Inv-loop μ-loop
 add-below c =
     let l = c .before .before .loop in
-    let f = at (c .before .before .before .before .args .counts .now) in
-    omega (arith, sum-more f (l .k), sum-mono f (l .k + 1) 33 (omega arith), l .inv .1, c .before .before .before .before .pre .1, c .before .before .before .before .pre .2)
+    let s = c .before .before .before .before in
+    let f = at (s .args .counts .now) in
+    omega (arith, sum-more f (l .k), sum-mono f (l .k + 1) 33 (omega arith), l .inv .1, s .pre .1, s .pre .2)
 
 mul-if1 : tie.Need-mul-if1 Inv-loop μ-loop
 mul-if1 c =
     let l = c .before .before .loop in
-    let f = at (c .before .before .before .before .args .counts .now) in
-    omega (arith, sum-more f (l .k), sum-mono f (l .k + 1) 33 (omega arith), l .inv .1, c .before .before .before .before .pre .1, c .before .before .before .before .pre .2)
+    let s = c .before .before .before .before in
+    let f = at (s .args .counts .now) in
+    omega (arith, sum-more f (l .k), sum-mono f (l .k + 1) 33 (omega arith), l .inv .1, s .pre .1, s .pre .2)
 
 upper-end-requires : tie.Need-upper-end-requires Inv-loop μ-loop
 upper-end-requires c κs = omega arith
@@ -64,9 +66,10 @@ upper-end-requires c κs = omega arith
 returns : tie.Need-returns Inv-loop μ-loop
 returns c =
     let l = c .before .before .before .before .loop in
-    let start = c .before .before .before .before .before .before in
+    let d = c .before .before .before .before .before in
+    let start = d .before in
     let f = at (start .args .counts .now) in
-    let share : c .before .before .before .before .before .wide .result * start .args .all ≡ start .args .p * sumTo f 33 = ap₂ _*_ (c .before .before .before .before .before .wide .ensures .0) (start .pre .1) in
+    let share : d .wide .result * start .args .all ≡ start .args .p * sumTo f 33 = ap₂ _*_ (d .wide .ensures .0) (start .pre .1) in
     c .upper-end .ensures
     ∙ percentile-found f (start .args .p) (start .pre .0) (l .k) (omega arith)
     (omega (arith, next f (l .k), l .inv .1, share, c .before .if1 .taken)) (l .inv .2)
@@ -80,9 +83,10 @@ loop-less c = omega arith
 loop-again : tie.Need-loop-again Inv-loop μ-loop
 loop-again c =
     let l = c .before .before .before .loop in
-    let start = c .before .before .before .before .before in
+    let d = c .before .before .before .before in
+    let start = d .before in
     let f = at (start .args .counts .now) in
-    let share : c .before .before .before .before .wide .result * start .args .all ≡ start .args .p * sumTo f 33 = ap₂ _*_ (c .before .before .before .before .wide .ensures .0) (start .pre .1) in (
+    let share : d .wide .result * start .args .all ≡ start .args .p * sumTo f 33 = ap₂ _*_ (d .wide .ensures .0) (start .pre .1) in (
       omega arith,
       omega (arith, sum-more f (l .k), l .inv .1),
       λ j h. up-to (λ j. sumTo f (suc j) * 1000 < start .args .p * sumTo f 33) (l .k) (l .inv .2)
