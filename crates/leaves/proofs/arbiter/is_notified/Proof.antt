@@ -35,8 +35,8 @@ returns c =
     let l = t .before .loop in
     let a = t .before .before .args in
     let next = rouses-in (a .n) (a .stage .now) (a .priority .now) (a .enable .now) (a .c) (l .i) (t .loop-test .taken) (l .inv .0) (a .threshold) in
-    let above = ap (ltb (a .threshold)) (sym (c .before .rank-of .ensures)) ∙ lt-ltb _ _ (c .if2 .taken) in
-    sym (any-of _ (suc (a .n)) (l .i) (omega arith) (next ∙ above))
+    sym (any-of _ (suc (a .n)) (l .i) (omega arith)
+    (next ∙ ap (ltb (a .threshold)) (sym (c .before .rank-of .ensures)) ∙ lt-ltb _ _ (c .if2 .taken)))
 
 sub-i : tie.Need-sub-i Inv-loop μ-loop
 sub-i c = omega arith

@@ -24,6 +24,10 @@ Passed counts p k = (j : ℕ) → j < k → sumTo (at counts) (suc j) * 1000 < p
 next : (f : ℕ → ℕ) (k : ℕ) → sumTo f (suc k) ≡ sumTo f k + f k
 next f k = ap (sumTo f) (sym (add-one k)) ∙ sum-more f k
 
+-- with the next bucket the sum is at most all
+reached : (f : ℕ → ℕ) (k : ℕ) → k ≤ 32 → sumTo f k + f k ≤ sumTo f 33
+reached f k h = omega (arith, sum-more f k, sum-mono f (k + 1) 33 (omega arith))
+
 abbrev Inv-loop : tie.InvT-loop
 Inv-loop counts p all goal below₀ k₀ below k = (k ≤ 32) × (below ≡ sumTo (at counts) k) × Passed counts p k
 
@@ -50,15 +54,13 @@ add-below : tie.Need-add-below Inv-loop μ-loop
 add-below c =
     let l = c .before .before .loop in
     let s = c .before .before .before .before in
-    let f = at (s .args .counts .now) in
-    omega (arith, sum-more f (l .k), sum-mono f (l .k + 1) 33 (omega arith), l .inv .1, s .pre .1, s .pre .2)
+    omega (arith, reached (at (s .args .counts .now)) (l .k) (l .inv .0), l .inv .1, s .pre .1, s .pre .2)
 
 mul-if1 : tie.Need-mul-if1 Inv-loop μ-loop
 mul-if1 c =
     let l = c .before .before .loop in
     let s = c .before .before .before .before in
-    let f = at (s .args .counts .now) in
-    omega (arith, sum-more f (l .k), sum-mono f (l .k + 1) 33 (omega arith), l .inv .1, s .pre .1, s .pre .2)
+    omega (arith, reached (at (s .args .counts .now)) (l .k) (l .inv .0), l .inv .1, s .pre .1, s .pre .2)
 
 upper-end-requires : tie.Need-upper-end-requires Inv-loop μ-loop
 upper-end-requires c κs = omega arith
