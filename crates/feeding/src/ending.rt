@@ -39,11 +39,7 @@ fn put_closing(replay: Replaying, output: &mut [u8], at: usize) -> usize
 {
     let place = replay.place;
     match place {
-        Place::Before => replaying::put_said(
-            Said::Refused(number_of(Refusal::Unreadable)),
-            output,
-            at,
-        ),
+        Place::Before => replaying::put_said(Said::Refused(number_of(Refusal::Unreadable)), output, at),
         Place::On => put_board(replay.state, output, at),
         Place::Ended => at,
     }

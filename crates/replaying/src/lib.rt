@@ -3,8 +3,8 @@
 mod lines;
 mod text;
 
-use limits::HELD_ROOM;
 pub use lines::line_end;
+use limits::HELD_ROOM;
 use model::Answer;
 use model::Refusal;
 use model::State;
