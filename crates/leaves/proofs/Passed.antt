@@ -1,16 +1,36 @@
--- A check's numbers: none where there is no ground, and what a call whose check finds none may rely on.
+-- What a call knows past its tests: what a negated test stands for, the number that a check comes to, and what a call whose check finds
+-- no ground may rely on.
 -- Assumes nothing.
-use mathlib.Core.Path.{_≡_, refl}
+use mathlib.Core.Path.{_≡_, _∙_, refl, sym, ap}
 use mathlib.Core.Bool.{Bool, true, false, not, cond, _&&_, So}
 use mathlib.Core.List.{List, [], _∷_}
 use Prim.Native.Nat.{ℕ, suc, _+_, _%_, _≤_, _<_}
 use native.Mathlib.Nat.{suc-ne-zero}
 use lib.Dec.{leb, ltb, eqb}
-use borrow.Author.Tests.{ltb-false, leb-true, leb-false, eqb-true, not-false}
+use borrow.Author.Tests.{ltb-false, leb-true, leb-false, not-true, not-false}
 use Rattle.laws.proofs.Truth.{and-right}
 use Rattle.model.specs.Board.{isSource, isContext}
-use Rattle.model.specs.Refusals.{Ground, firstOf}
-use Rattle.leaves.specs.Checks.{stepGrounds, lineGrounds, advanceGrounds, accessGrounds, contextGrounds, percentileGrounds}
+use Rattle.model.specs.declared.Refusal.{Refusal}
+use Rattle.model.specs.Refusals.{numberOf, Ground, firstOf}
+use Rattle.leaves.specs.declared.checks.Check.{Check}
+use Rattle.leaves.specs.declared.checks.Check.the-variants.{Passed, Refused}
+use Rattle.leaves.specs.Checks.{checkNumber, stepGrounds, lineGrounds, advanceGrounds, accessGrounds, contextGrounds, percentileGrounds}
+
+-- a test that the code negates, where it stops at it and where it goes on
+module _ {test is : Bool} (says : test ≡ is) where
+  pub tested-false : not test ≡ true → is ≡ false
+  tested-false t = sym says ∙ not-true test t
+
+  pub tested-true : not test ≡ false → is ≡ true
+  tested-true t = sym says ∙ not-false test t
+
+-- the number of the grounds that a check looks at, by what it finds
+module _ {check : Check} {number : ℕ} (says : checkNumber check ≡ number) where
+  pub found-refused : {why : Refusal} → check ≡ Refused why → number ≡ numberOf why
+  found-refused e = sym says ∙ ap checkNumber e
+
+  pub found-none : check ≡ Passed → number ≡ 0
+  found-none e = sym says ∙ ap checkNumber e
 
 pub first-none : firstOf [] ≡ 0
 unfolding firstOf

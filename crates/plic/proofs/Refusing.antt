@@ -13,7 +13,9 @@ use Rattle.model.specs.declared.Answered.{Answered}
 use Rattle.model.specs.Waits.{boardClaims, boardWaited}
 use Rattle.model.specs.Refusals.{numberOf, Outcome, answerNumber, answerValues, answered, Ground, firstOf}
 use Rattle.model.specs.Sound.{sound, Sound}
-use Rattle.model.specs.Calls.{Call, line, advance, read, write, notification, mean, byClaim, byTime, totals, notSound, noStepLeft, offsetAbove, offsetUnaligned, noSuchSource, noSuchContext, clockPast, perMilleOutside, nothingToDivide, grounds, valuesOf, after, respond}
+use Rattle.model.specs.Calls.{Call, line, advance, read, write, notification, mean, byClaim, byTime, totals}
+use Rattle.model.specs.Calls.{notSound, noStepLeft, offsetAbove, offsetUnaligned, noSuchSource, noSuchContext, clockPast}
+use Rattle.model.specs.Calls.{perMilleOutside, nothingToDivide, grounds, valuesOf, after, respond}
 use Rattle.model.proofs.Sound.{sound-facts}
 use Rattle.model.proofs.Calls.{first-hit, first-miss, refused-as, accepted-as}
 use Rattle.leaves.specs.Checks.{lineGrounds, advanceGrounds, accessGrounds, contextGrounds, percentileGrounds}
@@ -88,10 +90,12 @@ module _ {a : Call} {s : State} {own : List Ground} (owns : Owns a s own) where
   says-accepted o t e is = is ∙ sym (accepted-as a s (own-number t ∙ e))
 
 -- an accepted call gives its value and the state after it
-pub given-as : (a : Call) (s : State) (v : ℕ) (x : Answered) → valuesOf a s ≡ v ∷ [] → x ≡ record { answer = Value v; state = after a s } →
+pub given-as : (a : Call) (s : State) {v w : ℕ} (x : Answered) → valuesOf a s ≡ w ∷ [] → v ≡ w → x ≡ record { answer = Value v; state = after a s } →
     answered x ≡ record { number = 0; values = valuesOf a s; state = after a s }
 unfolding answered answerNumber answerValues
-given-as a s v x e is = ap answered is ∙ (λ i. record { number = 0; values = sym e i; state = after a s })
+given-as a s x e value is =
+    let values = ap (λ (k : ℕ). k ∷ []) value ∙ sym e in
+    ap answered is ∙ (λ i. record { number = 0; values = values i; state = after a s })
 
 -- a sound state with a step left
 pub ready : {s : State} → So (sound s) → s .steps < 4294967295 → Ready s

@@ -31,11 +31,12 @@ rank-of-requires c κs = omega arith
 returns : tie.Need-returns Inv-loop μ-loop
 unfolding notifiedIn
 returns c =
-    let a = c .before .before .before .before .before .before .args in
-    let l = c .before .before .before .before .before .loop in
+    let t = c .before .before .before .before in
+    let l = t .before .loop in
+    let a = t .before .before .args in
+    let next = rouses-in (a .n) (a .stage .now) (a .priority .now) (a .enable .now) (a .c) (l .i) (t .loop-test .taken) (l .inv .0) (a .threshold) in
     sym (any-of _ (suc (a .n)) (l .i) (omega arith)
-    (rouses-in (a .n) (a .stage .now) (a .priority .now) (a .enable .now) (a .c) (l .i) (c .before .before .before .before .loop-test .taken) (l .inv .0) (a .threshold)
-    ∙ ap (ltb (a .threshold)) (sym (c .before .rank-of .ensures)) ∙ lt-ltb _ _ (c .if2 .taken)))
+    (next ∙ ap (ltb (a .threshold)) (sym (c .before .rank-of .ensures)) ∙ lt-ltb _ _ (c .if2 .taken)))
 
 sub-i : tie.Need-sub-i Inv-loop μ-loop
 sub-i c = omega arith
@@ -45,13 +46,15 @@ loop-less c = omega arith
 
 loop-again : tie.Need-loop-again Inv-loop μ-loop
 loop-again c =
-    let a = c .before .before .before .before .args in
-    let l = c .before .before .before .loop in
+    let t = c .before .before in
+    let l = t .before .loop in
+    let a = t .before .before .args in
     let f = rousesIn (a .n) (a .stage .now) (a .priority .now) (a .enable .now) (a .threshold) (a .c) in
+    let next = rouses-in (a .n) (a .stage .now) (a .priority .now) (a .enable .now) (a .c) (l .i) (t .loop-test .taken) (l .inv .0) (a .threshold) in
+    let idle = rouses-idle (a .n) (a .stage .now) (a .priority .now) (a .enable .now) (a .c) (l .i) (t .loop-test .taken) (l .inv .0) (a .threshold) in
     let here = ⊎-elim
-    (λ w. rouses-in (a .n) (a .stage .now) (a .priority .now) (a .enable .now) (a .c) (l .i) (c .before .before .loop-test .taken) (l .inv .0) (a .threshold)
-    ∙ ap (ltb (a .threshold)) (sym (w .1 .ensures)) ∙ le-ltb _ _ (w .2 .left))
-    (λ w. rouses-idle (a .n) (a .stage .now) (a .priority .now) (a .enable .now) (a .c) (l .i) (c .before .before .loop-test .taken) (l .inv .0) (a .threshold) (sym (c .before .is-pending .ensures) ∙ w .left))
+    (λ w. next ∙ ap (ltb (a .threshold)) (sym (w .1 .ensures)) ∙ le-ltb _ _ (w .2 .left))
+    (λ w. idle (sym (c .before .is-pending .ensures) ∙ w .left))
     (c .if1 .came) in
     (omega arith, down-to (λ j. j ≤ a .n → f j ≡ false) (l .i) (λ _. here) (l .inv .1))
 
@@ -60,7 +63,8 @@ unfolding notifiedIn
 returns-2 c =
     let a = c .before .before .args in
     let l = c .before .loop in
-    sym (none-down _ (a .n) (l .i) (c .loop-test .left) (rouses-zero (a .n) (a .stage .now) (a .priority .now) (a .enable .now) (a .c) (a .threshold)) (l .inv .1))
+    let zero = rouses-zero (a .n) (a .stage .now) (a .priority .now) (a .enable .now) (a .c) (a .threshold) in
+    sym (none-down _ (a .n) (l .i) (c .loop-test .left) zero (l .inv .1))
 
 pub is-notified-spec : {M : Type 1} → statement M
 is-notified-spec =

@@ -34,16 +34,18 @@ loop-less c = omega arith
 
 loop-again : tie.Need-loop-again Inv-loop μ-loop
 loop-again c =
-    let a = c .before .before .before .before .args in
-    let l = c .before .before .before .loop in
+    let t = c .before .before in
+    let l = t .before .loop in
+    let a = t .before .before .args in
     let f = rankIn (a .n) (a .stage .now) (a .priority .now) (a .enable .now) (a .c) in
-    let next = rank-in (a .n) (a .stage .now) (a .priority .now) (a .enable .now) (a .c) (l .i) (c .before .before .loop-test .taken) (l .inv .0) in
+    let next = rank-in (a .n) (a .stage .now) (a .priority .now) (a .enable .now) (a .c) (l .i) (t .loop-test .taken) (l .inv .0) in
+    let idle = rank-idle (a .n) (a .stage .now) (a .priority .now) (a .enable .now) (a .c) (l .i) (t .loop-test .taken) (l .inv .0) in
+    let is = sym (c .before .is-pending .ensures) in
     let down = ⊎-elim
     (λ w. taken f (a .n) (l .i) (l .won) (l .high) (w .1 .result) (l .inv .1) (l .inv .0) (w .1 .ensures ∙ sym next) (w .2 .taken) (w .3) (w .4))
     (⊎-elim
     (λ w. passed f (a .n) (l .i) (l .won) (l .high) (w .1 .result) (l .inv .1) (l .inv .0) (w .1 .ensures ∙ sym next) (below _ _ (w .2 .left)) (w .3) (w .4))
-    (λ w. passed f (a .n) (l .i) (l .won) (l .high) 0 (l .inv .1) (l .inv .0)
-    (sym (rank-idle (a .n) (a .stage .now) (a .priority .now) (a .enable .now) (a .c) (l .i) (c .before .before .loop-test .taken) (l .inv .0) (sym (c .before .is-pending .ensures) ∙ w .0 .left))) (inl refl) (w .1) (w .2)))
+    (λ w. passed f (a .n) (l .i) (l .won) (l .high) 0 (l .inv .1) (l .inv .0) (sym (idle (is ∙ w .0 .left))) (inl refl) (w .1) (w .2)))
     (c .if1 .came) in
     (omega arith, down)
 
@@ -52,7 +54,8 @@ unfolding winnerIn
 returns c =
     let a = c .before .before .args in
     let l = c .before .loop in
-    down-best _ (a .n) (l .i) (l .won) (l .high) (c .loop-test .left) (rank-zero (a .n) (a .stage .now) (a .priority .now) (a .enable .now) (a .c)) (l .inv .1)
+    let zero = rank-zero (a .n) (a .stage .now) (a .priority .now) (a .enable .now) (a .c) in
+    down-best _ (a .n) (l .i) (l .won) (l .high) (c .loop-test .left) zero (l .inv .1)
 
 pub winner-spec : {M : Type 1} → statement M
 winner-spec =

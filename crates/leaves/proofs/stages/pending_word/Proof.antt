@@ -45,7 +45,8 @@ is-pending-requires c κs = omega arith
 add-word : tie.Need-add-word Inv-loop μ-loop
 add-word c =
     let l = c .before .before .before .loop in
-    omega (arith, packed-lt (at (c .before .before .before .before .args .stage .now) (c .before .before .before .before .args .w * 32)) (l .j), pow-mono {i = l .j} {j = 31} (omega arith))
+    let a = c .before .before .before .before .args in
+    omega (arith, packed-lt (at (a .stage .now) (a .w * 32)) (l .j), pow-mono {i = l .j} {j = 31} (omega arith))
 
 mul-worth : tie.Need-mul-worth Inv-loop μ-loop
 mul-worth c =

@@ -17,8 +17,10 @@ rem-result c = omega (arith, c .power .ensures, pow-pos (c .before .args .bits))
 
 cast-result : tie.Need-cast-result
 cast-result c =
-    let p = 2 ^ c .before .args .bits in
-    omega (arith, ap (λ (x : ℕ). c .before .args .v % x) (c .power .ensures), mod-lt (c .before .args .v) {m = p} (pow-pos (c .before .args .bits)), pow-mono {i = c .before .args .bits} {j = 5} (c .before .pre))
+    let a = c .before .args in
+    let small = mod-lt (a .v) {m = 2 ^ a .bits} (pow-pos (a .bits)) in
+    let most = pow-mono {i = a .bits} {j = 5} (c .before .pre) in
+    omega (arith, ap (λ (x : ℕ). a .v % x) (c .power .ensures), small, most)
 
 returns : tie.Need-returns
 returns c = ap (λ (x : ℕ). c .before .args .v % x) (c .power .ensures)

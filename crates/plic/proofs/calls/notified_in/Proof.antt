@@ -1,9 +1,12 @@
 -- `calls::notified_in` meets its contract: the arbiter's answer on the state's arrays.
 -- Assumes nothing.
 use borrow.Author.Needs.{needs}
-use mathlib.Core.Path.{_∙_, sym}
+use mathlib.Core.Path.{_≡_, _∙_, refl, sym}
+use Prim.Native.Nat.{ℕ}
 use native.Mathlib.Omega.{arith}
+use lib.ListN.{getD}
 use Rattle.laws.proofs.Truth.{cond-so, cond-not}
+use Rattle.model.specs.declared.State.{State}
 use Rattle.model.specs.Board.{request, priority, threshold, enableWord, enabled}
 use Rattle.model.specs.Waits.{isPending}
 use Rattle.model.specs.Life.{pendingFor, rouses, notified}
@@ -11,6 +14,13 @@ use Rattle.model.proofs.Registers.{context-range}
 use Rattle.leaves.specs.Leaves.{enabledIn, pendingForIn, rousesIn, notifiedIn}
 use Rattle.plic.proofs.calls.notified_in.Statement.{statement}
 use Rattle.plic.proofs.calls.notified_in.Tie as tie
+
+-- the arbiter's answer on a state's arrays is the definition's
+same : (s : State) (c : ℕ) →
+    let g = s .settings in
+    notifiedIn (s .shape .sources) (s .requests .stage) (g .priority) (g .enable) (getD (g .threshold) c 0) c ≡ notified s c
+unfolding notified rouses pendingFor isPending request enabled enableWord priority threshold notifiedIn rousesIn pendingForIn enabledIn
+same s c = refl
 
 cast-n : tie.Need-cast-n
 cast-n c = search needs
@@ -24,12 +34,14 @@ is-notified-requires c κs =
     omega (arith, context-range _ _ (s .pre .1), s .pre .0 .limits .contexts .1, s .pre .0 .limits .sources .1)
 
 returns : tie.Need-returns
-unfolding notified rouses pendingFor isPending request enabled enableWord priority threshold notifiedIn rousesIn pendingForIn enabledIn
-returns c = sym (cond-so 1 0 (sym (c .before .is-notified .ensures) ∙ c .if1 .taken))
+returns c =
+    let a = c .before .before .before .before .before .before .before .before .args in
+    sym (cond-so 1 0 (sym (c .before .is-notified .ensures ∙ same (a .t1) (a .context)) ∙ c .if1 .taken))
 
 returns-2 : tie.Need-returns-2
-unfolding notified rouses pendingFor isPending request enabled enableWord priority threshold notifiedIn rousesIn pendingForIn enabledIn
-returns-2 c = sym (cond-not 1 0 (sym (c .before .is-notified .ensures) ∙ c .if1 .left))
+returns-2 c =
+    let a = c .before .before .before .before .before .before .before .before .args in
+    sym (cond-not 1 0 (sym (c .before .is-notified .ensures ∙ same (a .t1) (a .context)) ∙ c .if1 .left))
 
 pub notified-in-spec : {M : Type 1} → statement M
 notified-in-spec =

@@ -1,24 +1,18 @@
 -- `calls::read` meets its contract: the first refusal, or the step.
 -- Assumes nothing.
 use borrow.Author.Needs.{needs}
-use mathlib.Core.Path.{_≡_, _∙_, refl, sym, ap}
+use mathlib.Core.Path.{refl}
 use mathlib.Core.Bool.{So}
-use borrow.Author.Tests.{not-true, not-false}
 use Rattle.model.specs.Sound.{sound}
-use Rattle.model.specs.Calls.{Call, read, valuesOf}
-use Rattle.leaves.specs.Checks.{checkNumber}
-use Rattle.leaves.proofs.Passed.{step-passed}
+use Rattle.model.specs.Calls.{read, valuesOf}
+use Rattle.leaves.proofs.Passed.{tested-false, tested-true, found-refused, found-none, step-passed}
 use Rattle.plic.proofs.Refusing.{read-owns, says-unsound, says-refused, says-accepted, given-as, ready}
 use Rattle.plic.proofs.calls.read.Statement.{statement}
 use Rattle.plic.proofs.calls.read.Tie as tie
 
--- the call that is asked for
-abbrev asked : tie.Start → Call
-asked s = read (s .args .offset)
-
 -- past the first test the state is sound
 is-so : (e : tie.Else1) → So (sound (e .before .before .args .state))
-is-so e = sym (e .before .is-sound .ensures) ∙ not-false _ (e .if1 .left)
+is-so e = tested-true (e .before .is-sound .ensures) (e .if1 .left)
 
 is-sound-requires : tie.Need-is-sound-requires
 is-sound-requires c κs = search needs
@@ -29,9 +23,9 @@ refused-requires c κs = search needs
 returns : tie.Need-returns
 unfolding valuesOf
 returns c =
-    let s = c .before .before .before in
-    let unsound = sym (c .before .before .is-sound .ensures) ∙ not-true _ (c .before .if1 .taken) in
-    says-unsound (read-owns (s .args .state) (s .args .offset)) refl (c .refused .result) unsound (c .refused .ensures)
+    let a = c .before .before .before .args in
+    let unsound = tested-false (c .before .before .is-sound .ensures) (c .before .if1 .taken) in
+    says-unsound (read-owns (a .state) (a .offset)) refl (c .refused .result) unsound (c .refused .ensures)
 
 access-check-requires : tie.Need-access-check-requires
 access-check-requires c κs = search needs
@@ -48,27 +42,27 @@ enum-told c = search needs
 read-made-requires : tie.Need-read-made-requires
 read-made-requires c κs =
     let e = c .before .before .before in
-    let s = e .before .before in
-    let a = s .args in
-    let none = sym (c .before .before .access-check .ensures) ∙ ap checkNumber (c .enum-told .given .1) in
+    let a = e .before .before .args in
+    let none = found-none (c .before .before .access-check .ensures) (c .enum-told .given .1) in
     ready (is-so e) (step-passed (a .state .steps) _ none .0)
 
 returns-2 : tie.Need-returns-2
 unfolding valuesOf
 returns-2 c =
-    let e = c .before .before .before .before .before in
-    let s = e .before .before in
+    let d = c .before .before .before .before in
+    let a = d .before .before .before .args in
     let why = c .before .before .check .given in
-    let number = sym (c .before .before .before .before .access-check .ensures) ∙ ap checkNumber (why .1) in
-    says-refused (read-owns (s .args .state) (s .args .offset)) refl (why .0 .0) (c .refused2 .result) (is-so e) number (c .refused2 .ensures)
+    let number = found-refused (d .access-check .ensures) (why .1) in
+    says-refused (read-owns (a .state) (a .offset)) refl (why .0 .0) (c .refused2 .result) (is-so (d .before)) number (c .refused2 .ensures)
 
 returns-3 : tie.Need-returns-3
 unfolding valuesOf
 returns-3 c =
-    let e = c .before .before .before .before in
-    let s = e .before .before in
-    let none = sym (c .before .before .before .access-check .ensures) ∙ ap checkNumber (c .before .enum-told .given .1) in
-    says-accepted (read-owns (s .args .state) (s .args .offset)) _ (is-so e) none (c .read-made .ensures)
+    let d = c .before .before .before in
+    let a = d .before .before .before .args in
+    let none = found-none (d .access-check .ensures) (c .before .enum-told .given .1) in
+    says-accepted (read-owns (a .state) (a .offset)) _ (is-so (d .before)) none
+    (c .read-made .ensures)
 
 pub read-spec : {M : Type 1} → statement M
 read-spec =

@@ -1,9 +1,8 @@
 -- `calls::read_made` meets its contract: the step on the sound state, and one step more.
 -- Assumes nothing.
 use borrow.Author.Needs.{needs}
-use mathlib.Core.Path.{_∙_, sym, ap}
-use mathlib.Core.List.{[], _∷_}
-use Prim.Native.Nat.{ℕ, _+_}
+use mathlib.Core.Path.{_∙_, refl, ap}
+use Prim.Native.Nat.{_+_}
 use Rattle.model.specs.declared.State.{State}
 use Rattle.model.specs.declared.Answer.the-variants.{Value}
 use Rattle.model.specs.Board.{withSteps}
@@ -40,7 +39,7 @@ returns c =
     let register = d .register-at .ensures .0 in
     let value = did .ensures .0 ∙ read-value s (d .register-at .result) ∙ ap (readOf s) register in
     let state = read-whole s _ _ _ _ (d .register-at .result) (did .ensures .1) ∙ ap (afterRead s) register in
-    given-as (read offset) s (did .result) (c .given .result) (ap (λ (k : ℕ). k ∷ []) (sym value))
+    given-as (read offset) s (c .given .result) refl value
     (c .given .ensures ∙ ap (λ (k : State). record { answer = Value (did .result); state = withSteps k (s .steps + 1) }) state)
 
 pub read-made-spec : {M : Type 1} → statement M

@@ -1,26 +1,25 @@
--- `making::kinds_known` meets its contract. The loop's invariant: every byte before `i` is at most 2.
+-- `making::kinds_known` meets its contract. A checking loop over the bytes, which ends at the first that fails.
 -- Assumes nothing.
-use mathlib.Core.Path.{_≡_, _∙_, refl, sym, ap, ap₂}
-use Prim.Native.Nat.{_-_, _≤_}
+use mathlib.Core.Path.{sym}
+use Prim.Native.Nat.{_-_}
 use native.Mathlib.Omega.{arith}
-use mathlib.Core.Bool.{true, _&&_}
+use mathlib.Core.Bool.{true}
 use lib.Dec.{leb}
 use lib.ListN.{length, getD}
 use borrow.Author.Tests.{le-leb, lt-leb}
-use Rattle.laws.specs.Fold.{allTo}
-use Rattle.laws.proofs.Fold.{all-more, all-fails}
+use Rattle.laws.proofs.Fold.{all-fails}
+use Rattle.soundness.proofs.Checking.{Checking, check-begin, check-next, check-all}
 use Rattle.plic.proofs.making.kinds_known.Statement.{statement}
 use Rattle.plic.proofs.making.kinds_known.Tie as tie
 
 abbrev Inv-loop : tie.InvT-loop
-Inv-loop kinds i₀ i = (i ≤ length kinds) × (allTo (λ k. leb (getD kinds k 0) 2) i ≡ true)
+Inv-loop kinds i₀ i = Checking (λ k. leb (getD kinds k 0) 2) (length kinds) i true
 
 abbrev μ-loop : tie.MeasureT-loop
 μ-loop kinds i₀ i = length kinds - i
 
 loop-holds : tie.Need-loop-holds Inv-loop μ-loop
-unfolding allTo
-loop-holds c = (omega arith, refl)
+loop-holds c = check-begin _ (length (c .args .kinds .now))
 
 shared-slice-read-if1 : tie.Need-shared-slice-read-if1 Inv-loop μ-loop
 shared-slice-read-if1 c = omega arith
@@ -35,12 +34,10 @@ loop-less : tie.Need-loop-less Inv-loop μ-loop
 loop-less c = omega arith
 
 loop-again : tie.Need-loop-again Inv-loop μ-loop
-loop-again c = (omega arith, all-more _ (c .before .before .before .loop .i) ∙ ap₂ _&&_ (c .before .before .before .loop .inv .1) (le-leb _ _ (c .if1 .left)))
+loop-again c = check-next _ _ true (c .before .before .before .loop .inv) (omega arith) (sym (le-leb _ _ (c .if1 .left)))
 
 returns-2 : tie.Need-returns-2 Inv-loop μ-loop
-returns-2 c =
-    let last : c .before .loop .i ≡ length (c .before .before .args .kinds .now) = omega arith in
-    sym (ap (allTo _) (sym last) ∙ c .before .loop .inv .1)
+returns-2 c = check-all _ _ (c .before .loop .inv) (c .loop-test .left)
 
 pub kinds-known-spec : {M : Type 1} → statement M
 kinds-known-spec =

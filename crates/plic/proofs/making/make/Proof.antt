@@ -1,22 +1,23 @@
 -- `making::make` meets its contract: a shape that fails a test is the refused case, and any other the fresh one.
 -- Assumes nothing.
 use borrow.Author.Needs.{needs}
-use mathlib.Core.Path.{_∙_, sym, ap}
+use mathlib.Core.Path.{_∙_, ap}
 use mathlib.Core.Bool.{So}
 use native.Mathlib.Omega.{arith}
 use lib.Dec.{eqb}
 use lib.ListN.{length}
-use borrow.Author.Tests.{not-true, not-false, eq-eqb, ne-eqb}
+use borrow.Author.Tests.{eq-eqb, ne-eqb}
 use Rattle.laws.proofs.Truth.{and-intro, and-fails-left, and-fails-right}
 use Rattle.model.specs.Board.{withinLimits, kindsFor, freshIn, shapeOf}
 use Rattle.model.proofs.Sound.{limits-facts}
+use Rattle.leaves.proofs.Passed.{tested-false, tested-true}
 use Rattle.plic.proofs.Makes.{says-unmade, says-made}
 use Rattle.plic.proofs.making.make.Statement.{statement}
 use Rattle.plic.proofs.making.make.Tie as tie
 
 -- past the first test the numbers are within their limits
 limits : (e : tie.Else1) → let a = e .before .before .before .args in So (withinLimits (a .n) (a .m) (a .b))
-limits e = sym (e .before .within-limits .ensures) ∙ not-false _ (e .if1 .left)
+limits e = tested-true (e .before .within-limits .ensures) (e .if1 .left)
 
 within-limits-requires : tie.Need-within-limits-requires
 within-limits-requires c κs = search needs
@@ -31,7 +32,7 @@ returns : tie.Need-returns
 returns c =
     let t = c .before .before in
     let a = t .before .before .before .args in
-    let outside = and-fails-left _ (sym (t .before .within-limits .ensures) ∙ not-true _ (t .if1 .taken)) in
+    let outside = and-fails-left _ (tested-false (t .before .within-limits .ensures) (t .if1 .taken)) in
     says-unmade (a .n) (a .m) (a .b) (a .kinds .now) (c .refused .result) _ outside (c .refused .ensures) (c .before .zero .ensures)
 
 zero-requires-2 : tie.Need-zero-requires-2
@@ -62,7 +63,7 @@ unfolding kindsFor
 returns-3 c =
     let t = c .before .before in
     let a = t .before .before .before .before .before .before .args in
-    let above = sym (t .before .kinds-known .ensures) ∙ not-true _ (t .if3 .taken) in
+    let above = tested-false (t .before .kinds-known .ensures) (t .if3 .taken) in
     let unknown = and-fails-right (withinLimits (a .n) (a .m) (a .b)) (and-fails-right (eqb (length (a .kinds .now)) (a .n)) above) in
     says-unmade (a .n) (a .m) (a .b) (a .kinds .now) (c .refused3 .result) _ unknown (c .refused3 .ensures) (c .before .zero3 .ensures)
 
@@ -84,7 +85,7 @@ returns-4 c =
     let known = c .before .before .before in
     let e = known .before .before .before in
     let a = e .before .before .before .args in
-    let kinds = and-intro (eq-eqb _ _ (known .before .before .if2 .left)) (sym (known .before .kinds-known .ensures) ∙ not-false _ (known .if3 .left)) in
+    let kinds = and-intro (eq-eqb _ _ (known .before .before .if2 .left)) (tested-true (known .before .kinds-known .ensures) (known .if3 .left)) in
     let shape = ap (λ k. freshIn (record { sources = a .n; contexts = a .m; bits = a .b; kind = k })) (c .before .before .kinds-by-source .ensures) in
     says-made (a .n) (a .m) (a .b) (a .kinds .now) (c .given .result) _ (and-intro (limits e) kinds) (c .given .ensures) (c .before .fresh .ensures ∙ shape)
 

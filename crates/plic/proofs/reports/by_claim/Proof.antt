@@ -3,20 +3,19 @@
 use borrow.Author.Needs.{needs}
 use mathlib.Core.Path.{_≡_, _∙_, refl, sym, ap}
 use mathlib.Core.Bool.{So}
-use mathlib.Core.List.{List, [], _∷_}
-use Prim.Native.Nat.{ℕ, _≤_}
+use mathlib.Core.List.{List}
+use Prim.Native.Nat.{ℕ}
 use native.Mathlib.Omega.{arith}
 use lib.ListN.{getD}
-use borrow.Author.Tests.{not-true, not-false}
 use Rattle.limits.specs.Limits.{bucketRoom}
 use Rattle.laws.specs.Fold.{sumTo}
-use Rattle.model.specs.Waits.{sourceClaims, sourceWaited, boardClaims, boardWaited, bucketClaims, bucketTicks, percentile}
+use Rattle.model.specs.Waits.{sourceClaims, boardClaims, bucketClaims, percentile}
 use Rattle.model.specs.Refusals.{firstOf}
-use Rattle.model.specs.Sound.{sound, Sound}
+use Rattle.model.specs.Sound.{sound}
 use Rattle.model.specs.Calls.{byClaim, isStep, valuesOf, effect, after}
 use Rattle.model.proofs.Sound.{sound-facts}
 use Rattle.leaves.specs.Checks.{checkNumber, percentileGrounds}
-use Rattle.leaves.proofs.Passed.{percentile-passed}
+use Rattle.leaves.proofs.Passed.{tested-false, tested-true, found-refused, found-none, percentile-passed}
 use Rattle.steps.proofs.Bookings.{claims-fit}
 use Rattle.plic.proofs.Refusing.{claim-owns, says-unsound, says-refused, says-accepted, given-as}
 use Rattle.plic.proofs.reports.by_claim.Statement.{statement}
@@ -24,14 +23,17 @@ use Rattle.plic.proofs.reports.by_claim.Tie as tie
 
 -- past the first test the state is sound
 is-so : (e : tie.Else1) → So (sound (e .before .before .args .t1))
-is-so e = sym (e .before .is-sound .ensures) ∙ not-false _ (e .if1 .left)
+is-so e = tested-true (e .before .is-sound .ensures) (e .if1 .left)
 
 -- the total that is checked is the board's
-own : (d : tie.After-source-total) →
-    let s = d .before .before .before .before .before .args in
-    (p : ℕ) → firstOf (percentileGrounds p (d .source-total .result)) ≡ firstOf (percentileGrounds p (boardClaims (s .t1 .counts)))
-unfolding boardClaims boardWaited sourceClaims sourceWaited
-own d p = ap (λ (n : ℕ). firstOf (percentileGrounds p n)) (d .source-total .ensures)
+own : (k : tie.After-percentile-check) →
+    let a = k .before .before .before .before .before .before .args in
+    checkNumber (k .percentile-check .result) ≡ firstOf (percentileGrounds (a .per-mille) (boardClaims (a .t1 .counts)))
+unfolding boardClaims sourceClaims
+own k =
+    let d = k .before in
+    let p = d .before .before .before .before .before .args .per-mille in
+    k .percentile-check .ensures ∙ ap (λ (n : ℕ). firstOf (percentileGrounds p n)) (d .source-total .ensures)
 
 is-sound-requires : tie.Need-is-sound-requires
 is-sound-requires c κs = search needs
@@ -42,9 +44,9 @@ refused-requires c κs = search needs
 returns : tie.Need-returns
 unfolding valuesOf
 returns c =
-    let s = c .before .before .before in
-    let unsound = sym (c .before .before .is-sound .ensures) ∙ not-true _ (c .before .if1 .taken) in
-    says-unsound (claim-owns (s .args .t1) (s .args .per-mille)) refl (c .refused .result) unsound (c .refused .ensures)
+    let a = c .before .before .before .args in
+    let unsound = tested-false (c .before .before .is-sound .ensures) (c .before .if1 .taken) in
+    says-unsound (claim-owns (a .t1) (a .per-mille)) refl (c .refused .result) unsound (c .refused .ensures)
 
 source-total-requires : tie.Need-source-total-requires
 source-total-requires c κs = search needs
@@ -65,15 +67,17 @@ widened-requires : tie.Need-widened-requires
 widened-requires c κs = sound-facts _ (is-so (c .before .before .before .before .before .before .before .before)) .types .bucketClaims
 
 percentile-of-requires : tie.Need-percentile-of-requires
-unfolding boardClaims boardWaited sourceClaims sourceWaited bucketClaims bucketTicks
+unfolding boardClaims sourceClaims bucketClaims
 percentile-of-requires c κs =
-    let d = c .before .before .before .before .before .before .before in
+    let k = c .before .before .before .before .before .before in
+    let d = k .before in
     let e = d .before .before .before in
     let a = e .before .before .args in
-    let none = sym (c .before .before .before .before .before .before .percentile-check .ensures) ∙ ap checkNumber (c .before .before .before .before .enum-told .given .1) in
     let facts = sound-facts (a .t1) (is-so e) in
     let all = d .source-total .ensures ∙ facts .claimsBooked in
-    (percentile-passed (a .per-mille) (d .source-total .result) none, all ∙ sym (ap (λ (l : List ℕ). sumTo (λ k. getD l k 0) bucketRoom) (c .before .widened .ensures)), omega (arith, d .source-total .ensures, claims-fit (a .t1) facts))
+    let most = percentile-passed (a .per-mille) (boardClaims (a .t1 .counts)) (found-none (own k) (c .before .before .before .before .enum-told .given .1)) in
+    let same = ap (λ (l : List ℕ). sumTo (λ k. getD l k 0) bucketRoom) (c .before .widened .ensures) in
+    (most, all ∙ sym same, omega (arith, d .source-total .ensures, claims-fit (a .t1) facts))
 
 given-requires : tie.Need-given-requires
 given-requires c κs = search needs
@@ -81,24 +85,23 @@ given-requires c κs = search needs
 returns-2 : tie.Need-returns-2
 unfolding valuesOf
 returns-2 c =
-    let d = c .before .before .before .before .before in
-    let e = d .before .before .before in
-    let s = e .before .before in
+    let k = c .before .before .before .before in
+    let e = k .before .before .before .before in
+    let a = e .before .before .args in
     let why = c .before .before .check .given in
-    let number = sym (c .before .before .before .before .percentile-check .ensures) ∙ ap checkNumber (why .1) in
-    says-refused (claim-owns (s .args .t1) (s .args .per-mille)) refl (why .0 .0) (c .refused2 .result) (is-so e)
-    (sym (own d (s .args .per-mille)) ∙ number) (c .refused2 .ensures)
+    let number = found-refused (own k) (why .1) in
+    says-refused (claim-owns (a .t1) (a .per-mille)) refl (why .0 .0) (c .refused2 .result) (is-so e) number (c .refused2 .ensures)
 
 returns-3 : tie.Need-returns-3
-unfolding valuesOf after effect isStep bucketClaims bucketTicks
+unfolding valuesOf after effect isStep bucketClaims
 returns-3 c =
-    let d = c .before .before .before .before .before .before .before .before .before in
-    let e = d .before .before .before in
+    let k = c .before .before .before .before .before .before .before .before in
+    let e = k .before .before .before .before in
     let a = e .before .before .args in
-    let none = sym (c .before .before .before .before .before .before .before .before .percentile-check .ensures) ∙ ap checkNumber (c .before .before .before .before .before .before .enum-told .given .1) in
-    let value = c .before .percentile-of .ensures ∙ ap (λ (l : List ℕ). percentile (λ k. getD l k 0) (a .per-mille)) (c .before .before .before .widened .ensures) in
-    says-accepted (claim-owns (a .t1) (a .per-mille)) _ (is-so e) (sym (own d (a .per-mille)) ∙ none)
-    (given-as (byClaim (a .per-mille)) (a .t1) (c .before .percentile-of .result) (c .given .result) (ap (λ (k : ℕ). k ∷ []) (sym value)) (c .given .ensures))
+    let none = found-none (own k) (c .before .before .before .before .before .before .enum-told .given .1) in
+    let same = ap (λ (l : List ℕ). percentile (λ k. getD l k 0) (a .per-mille)) (c .before .before .before .widened .ensures) in
+    says-accepted (claim-owns (a .t1) (a .per-mille)) _ (is-so e) none
+    (given-as (byClaim (a .per-mille)) (a .t1) (c .given .result) refl (c .before .percentile-of .ensures ∙ same) (c .given .ensures))
 
 pub by-claim-spec : {M : Type 1} → statement M
 by-claim-spec =

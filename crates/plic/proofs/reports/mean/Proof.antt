@@ -6,7 +6,7 @@ use mathlib.Core.Bool.{So}
 use mathlib.Core.List.{[], _∷_}
 use Prim.Native.Nat.{ℕ}
 use native.Mathlib.Omega.{arith}
-use borrow.Author.Tests.{not-true, not-false, eq-eqb, ne-eqb}
+use borrow.Author.Tests.{eq-eqb, ne-eqb}
 use Rattle.model.specs.declared.Refusal.the-variants.{NotSound, NothingToDivide}
 use Rattle.model.specs.Waits.{sourceClaims, sourceWaited, boardClaims, boardWaited}
 use Rattle.model.specs.Refusals.{numberOf, firstOf, meanNumber, meanValues, averaged}
@@ -14,7 +14,7 @@ use Rattle.model.specs.Sound.{sound}
 use Rattle.model.specs.Calls.{mean, nothingToDivide, isStep, valuesOf, effect, after}
 use Rattle.model.proofs.Sound.{sound-facts}
 use Rattle.model.proofs.Calls.{first-hit, first-miss, refused-as}
-use Rattle.leaves.proofs.Passed.{first-none}
+use Rattle.leaves.proofs.Passed.{tested-false, tested-true, first-none}
 use Rattle.steps.proofs.Bookings.{claims-fit}
 use Rattle.plic.proofs.Refusing.{mean-owns, unsound-number, own-number, says-accepted}
 use Rattle.plic.proofs.reports.mean.Statement.{statement}
@@ -22,7 +22,7 @@ use Rattle.plic.proofs.reports.mean.Tie as tie
 
 -- past the first test the state is sound
 is-so : (e : tie.Else1) → So (sound (e .before .before .args .t1))
-is-so e = sym (e .before .is-sound .ensures) ∙ not-false _ (e .if1 .left)
+is-so e = tested-true (e .before .is-sound .ensures) (e .if1 .left)
 
 -- the one ground of its own: nothing to divide by
 nothing : (n : ℕ) → n ≡ 0 → firstOf (nothingToDivide n ∷ []) ≡ numberOf NothingToDivide
@@ -39,7 +39,7 @@ is-sound-requires c κs = search needs
 returns : tie.Need-returns
 unfolding averaged meanNumber meanValues valuesOf
 returns c =
-    let unsound = sym (c .before .is-sound .ensures) ∙ not-true _ (c .if1 .taken) in
+    let unsound = tested-false (c .before .is-sound .ensures) (c .if1 .taken) in
     sym (refused-as mean _ NotSound (unsound-number (mean-owns (c .before .before .args .t1)) unsound))
 
 source-total-requires : tie.Need-source-total-requires

@@ -24,6 +24,10 @@ Passed counts p k = (j : ℕ) → j < k → sumTo (at counts) (suc j) * 1000 < p
 next : (f : ℕ → ℕ) (k : ℕ) → sumTo f (suc k) ≡ sumTo f k + f k
 next f k = ap (sumTo f) (sym (add-one k)) ∙ sum-more f k
 
+-- with the next bucket the sum is at most all
+reached : (f : ℕ → ℕ) (k : ℕ) → k ≤ 32 → sumTo f k + f k ≤ sumTo f 33
+reached f k h = omega (arith, sum-more f k, sum-mono f (k + 1) 33 (omega arith))
+
 abbrev Inv-loop : tie.InvT-loop
 Inv-loop counts p all goal below₀ k₀ below k = (k ≤ 32) × (below ≡ sumTo (at counts) k) × Passed counts p k
 
@@ -49,14 +53,14 @@ element-copy-out-below c = omega arith
 add-below : tie.Need-add-below Inv-loop μ-loop
 add-below c =
     let l = c .before .before .loop in
-    let f = at (c .before .before .before .before .args .counts .now) in
-    omega (arith, sum-more f (l .k), sum-mono f (l .k + 1) 33 (omega arith), l .inv .1, c .before .before .before .before .pre .1, c .before .before .before .before .pre .2)
+    let s = c .before .before .before .before in
+    omega (arith, reached (at (s .args .counts .now)) (l .k) (l .inv .0), l .inv .1, s .pre .1, s .pre .2)
 
 mul-if1 : tie.Need-mul-if1 Inv-loop μ-loop
 mul-if1 c =
     let l = c .before .before .loop in
-    let f = at (c .before .before .before .before .args .counts .now) in
-    omega (arith, sum-more f (l .k), sum-mono f (l .k + 1) 33 (omega arith), l .inv .1, c .before .before .before .before .pre .1, c .before .before .before .before .pre .2)
+    let s = c .before .before .before .before in
+    omega (arith, reached (at (s .args .counts .now)) (l .k) (l .inv .0), l .inv .1, s .pre .1, s .pre .2)
 
 upper-end-requires : tie.Need-upper-end-requires Inv-loop μ-loop
 upper-end-requires c κs = omega arith
@@ -64,9 +68,10 @@ upper-end-requires c κs = omega arith
 returns : tie.Need-returns Inv-loop μ-loop
 returns c =
     let l = c .before .before .before .before .loop in
-    let start = c .before .before .before .before .before .before in
+    let d = c .before .before .before .before .before in
+    let start = d .before in
     let f = at (start .args .counts .now) in
-    let share : c .before .before .before .before .before .wide .result * start .args .all ≡ start .args .p * sumTo f 33 = ap₂ _*_ (c .before .before .before .before .before .wide .ensures .0) (start .pre .1) in
+    let share : d .wide .result * start .args .all ≡ start .args .p * sumTo f 33 = ap₂ _*_ (d .wide .ensures .0) (start .pre .1) in
     c .upper-end .ensures
     ∙ percentile-found f (start .args .p) (start .pre .0) (l .k) (omega arith)
     (omega (arith, next f (l .k), l .inv .1, share, c .before .if1 .taken)) (l .inv .2)
@@ -80,9 +85,10 @@ loop-less c = omega arith
 loop-again : tie.Need-loop-again Inv-loop μ-loop
 loop-again c =
     let l = c .before .before .before .loop in
-    let start = c .before .before .before .before .before in
+    let d = c .before .before .before .before in
+    let start = d .before in
     let f = at (start .args .counts .now) in
-    let share : c .before .before .before .before .wide .result * start .args .all ≡ start .args .p * sumTo f 33 = ap₂ _*_ (c .before .before .before .before .wide .ensures .0) (start .pre .1) in (
+    let share : d .wide .result * start .args .all ≡ start .args .p * sumTo f 33 = ap₂ _*_ (d .wide .ensures .0) (start .pre .1) in (
       omega arith,
       omega (arith, sum-more f (l .k), l .inv .1),
       λ j h. up-to (λ j. sumTo f (suc j) * 1000 < start .args .p * sumTo f 33) (l .k) (l .inv .2)

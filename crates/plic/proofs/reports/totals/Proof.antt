@@ -5,7 +5,6 @@ use mathlib.Core.Path.{_∙_, sym}
 use mathlib.Core.Bool.{So}
 use mathlib.Core.List.{[], _∷_}
 use native.Mathlib.Omega.{arith}
-use borrow.Author.Tests.{not-true, not-false}
 use Rattle.model.specs.declared.Refusal.the-variants.{NotSound}
 use Rattle.model.specs.Board.{request}
 use Rattle.model.specs.Waits.{isPending, openAge, sourceClaims, sourceWaited, boardClaims, boardWaited, boardOpen}
@@ -15,7 +14,7 @@ use Rattle.model.specs.Calls.{totals, isStep, valuesOf, effect, after}
 use Rattle.model.proofs.Sound.{sound-facts}
 use Rattle.model.proofs.Calls.{refused-as}
 use Rattle.leaves.specs.Leaves.{openAgeIn}
-use Rattle.leaves.proofs.Passed.{first-none}
+use Rattle.leaves.proofs.Passed.{tested-false, tested-true, first-none}
 use Rattle.steps.proofs.Bookings.{claims-fit}
 use Rattle.plic.proofs.Refusing.{totals-owns, unsound-number, says-accepted}
 use Rattle.plic.proofs.reports.totals.Statement.{statement}
@@ -23,7 +22,7 @@ use Rattle.plic.proofs.reports.totals.Tie as tie
 
 -- past the first test the state is sound
 is-so : (e : tie.Else1) → So (sound (e .before .before .args .t1))
-is-so e = sym (e .before .is-sound .ensures) ∙ not-false _ (e .if1 .left)
+is-so e = tested-true (e .before .is-sound .ensures) (e .if1 .left)
 
 is-sound-requires : tie.Need-is-sound-requires
 is-sound-requires c κs = search needs
@@ -31,7 +30,7 @@ is-sound-requires c κs = search needs
 returns : tie.Need-returns
 unfolding totalled totalsNumber totalsValues valuesOf
 returns c =
-    let unsound = sym (c .before .is-sound .ensures) ∙ not-true _ (c .if1 .taken) in
+    let unsound = tested-false (c .before .is-sound .ensures) (c .if1 .taken) in
     sym (refused-as totals _ NotSound (unsound-number (totals-owns (c .before .before .args .t1)) unsound))
 
 source-total-requires : tie.Need-source-total-requires

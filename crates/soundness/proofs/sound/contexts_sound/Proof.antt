@@ -1,25 +1,21 @@
--- `sound::contexts_sound` meets its contract. The loop's invariant: every context before `c` passes.
+-- `sound::contexts_sound` meets its contract. A checking loop over the contexts.
 -- Assumes nothing.
-use mathlib.Core.Path.{_≡_, _∙_, refl, sym, ap, ap₂}
-use Prim.Native.Nat.{_-_, _≤_}
+use Prim.Native.Nat.{_-_}
 use native.Mathlib.Omega.{arith}
-use mathlib.Core.Bool.{_&&_}
 use Rattle.limits.specs.Limits.{contextRoom}
-use Rattle.laws.specs.Fold.{allTo}
-use Rattle.laws.proofs.Fold.{all-more}
 use Rattle.soundness.specs.Clauses.{soundContextIn}
+use Rattle.soundness.proofs.Checking.{Checking, check-begin, check-next, check-all}
 use Rattle.soundness.proofs.sound.contexts_sound.Statement.{statement}
 use Rattle.soundness.proofs.sound.contexts_sound.Tie as tie
 
 abbrev Inv-loop : tie.InvT-loop
-Inv-loop n m most enable threshold sound₀ c₀ sound c = (c ≤ contextRoom) × (sound ≡ allTo (soundContextIn n m most enable threshold) c)
+Inv-loop n m most enable threshold sound₀ c₀ sound c = Checking (soundContextIn n m most enable threshold) contextRoom c sound
 
 abbrev μ-loop : tie.MeasureT-loop
 μ-loop n m most enable threshold sound₀ c₀ sound c = contextRoom - c
 
 loop-holds : tie.Need-loop-holds Inv-loop μ-loop
-unfolding allTo
-loop-holds c = (omega arith, refl)
+loop-holds c = check-begin _ contextRoom
 
 context-sound-requires : tie.Need-context-sound-requires Inv-loop μ-loop
 context-sound-requires c κs = omega arith
@@ -31,12 +27,11 @@ loop-less : tie.Need-loop-less Inv-loop μ-loop
 loop-less c = omega arith
 
 loop-again : tie.Need-loop-again Inv-loop μ-loop
-loop-again c = (omega arith, ap₂ _&&_ (c .before .before .loop .inv .1) (c .context-sound .ensures) ∙ sym (all-more _ (c .before .before .loop .c)))
+loop-again c =
+    check-next _ contextRoom (c .context-sound .result) (c .before .before .loop .inv) (omega arith) (c .context-sound .ensures)
 
 returns : tie.Need-returns Inv-loop μ-loop
-returns c =
-    let last : c .before .loop .c ≡ contextRoom = omega arith in
-    c .before .loop .inv .1 ∙ ap (allTo _) last
+returns c = check-all _ contextRoom (c .before .loop .inv) (c .loop-test .left)
 
 pub contexts-sound-spec : {M : Type 1} → statement M
 contexts-sound-spec =

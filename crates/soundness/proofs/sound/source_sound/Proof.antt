@@ -38,11 +38,12 @@ add-result c = search needs
 returns : tie.Need-returns
 unfolding soundSource allZero isPending isIdle openAge openAgeIn rest zeros
 returns c =
-    let a = c .before .before .before .before .before .before .before .before .before .before .before .before .before .args in
-    ap₂ (λ (z : Bool) (g : ℕ). joined (leb (a .kind) 2) (rest (a .kind) (a .here) (a .most) (a .clock) (a .priority) (a .waited) (a .r) z g))
-    (joined-all (eqb (a .kind) 0) (zeros (a .priority) (a .claims) (a .waited) (a .r))) (c .before .before .before .before .before .before .before .before .before .before .open-age .ensures)
-    ∙ joined-all (leb (a .kind) 2) (rest (a .kind) (a .here) (a .most) (a .clock) (a .priority) (a .waited) (a .r)
-    (allZero (a .kind) (a .priority) (a .claims) (a .waited) (a .r)) (openAge (a .clock) (a .r)))
+    let d = c .before .before .before .before .before .before .before .before .before .before in
+    let a = d .before .before .before .args in
+    let tests = rest (a .kind) (a .here) (a .most) (a .clock) (a .priority) (a .waited) (a .r) in
+    let zero = joined-all (eqb (a .kind) 0) (zeros (a .priority) (a .claims) (a .waited) (a .r)) in
+    ap₂ (λ (z : Bool) (g : ℕ). joined (leb (a .kind) 2) (tests z g)) zero (d .open-age .ensures)
+    ∙ joined-all (leb (a .kind) 2) (tests (allZero (a .kind) (a .priority) (a .claims) (a .waited) (a .r)) (openAge (a .clock) (a .r)))
 
 pub source-sound-spec : {M : Type 1} → statement M
 source-sound-spec = tie.close (tie.spec open-age-requires cast-result add-result returns)

@@ -30,7 +30,8 @@ returns c =
     let claimed = c .before .before .before .before .source-total .ensures in
     let ticks = c .before .before .before .source-total2 .ensures in
     let booked = c .before .before .bucket-total .ensures in
-    let right = c .before .ticks-come-to .ensures ∙ ap (λ x. eqb x (sumTo (λ k. getD (c .before .before .before .before .before .args .bucket-ticks .now) k 0) bucketRoom)) ticks in
+    let held = c .before .before .before .before .before .args .bucket-ticks .now in
+    let right = c .before .ticks-come-to .ensures ∙ ap (λ x. eqb x (sumTo (λ k. getD held k 0) bucketRoom)) ticks in
     ap₂ _&&_ (ap₂ leb claimed (c .wide .ensures .0)) (ap₂ _&&_ (ap₂ eqb claimed booked) right)
 
 pub sums-sound-spec : {M : Type 1} → statement M

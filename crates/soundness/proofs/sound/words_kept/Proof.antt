@@ -1,27 +1,33 @@
--- `sound::words_kept` meets its contract. The loop's invariant: every word before `w` is as it is kept.
+-- `sound::words_kept` meets its contract. A checking loop over the words.
 -- Assumes nothing.
-use mathlib.Core.Path.{_≡_, _∙_, refl, sym, ap, ap₂}
-use Prim.Native.Nat.{_+_, _-_, _*_, _≤_}
+use mathlib.Core.Path.{ap}
+use mathlib.Core.Bool.{Bool}
+use mathlib.Core.List.{List}
+use Prim.Native.Nat.{ℕ, _+_, _-_, _*_}
 use native.Mathlib.Omega.{arith}
-use mathlib.Core.Bool.{_&&_}
 use lib.ListN.{getD}
 use lib.Dec.{eqb}
 use Rattle.limits.specs.Limits.{wordRoom}
-use Rattle.laws.specs.Fold.{allTo}
-use Rattle.laws.proofs.Fold.{all-more}
 use Rattle.model.specs.Registers.{kept}
+use Rattle.soundness.proofs.Checking.{Checking, check-begin, check-next, check-all}
 use Rattle.soundness.proofs.sound.words_kept.Statement.{statement}
 use Rattle.soundness.proofs.sound.words_kept.Tie as tie
 
+-- word k of context c, and whether it is as it is kept
+abbrev word : List ℕ → ℕ → ℕ → ℕ
+word enable c k = getD enable (c * wordRoom + k) 0
+
+abbrev is-kept : ℕ → List ℕ → ℕ → ℕ → Bool
+is-kept n enable c k = eqb (word enable c k) (kept n k (word enable c k))
+
 abbrev Inv-loop : tie.InvT-loop
-Inv-loop n enable c right₀ w₀ right w = (w ≤ wordRoom) × (right ≡ allTo (λ k. eqb (getD enable (c * wordRoom + k) 0) (kept n k (getD enable (c * wordRoom + k) 0))) w)
+Inv-loop n enable c right₀ w₀ right w = Checking (is-kept n enable c) wordRoom w right
 
 abbrev μ-loop : tie.MeasureT-loop
 μ-loop n enable c right₀ w₀ right w = wordRoom - w
 
 loop-holds : tie.Need-loop-holds Inv-loop μ-loop
-unfolding allTo
-loop-holds c = (omega arith, refl)
+loop-holds c = check-begin _ wordRoom
 
 mul-word : tie.Need-mul-word Inv-loop μ-loop
 mul-word c = omega arith
@@ -50,16 +56,11 @@ loop-less c = omega arith
 loop-again : tie.Need-loop-again Inv-loop μ-loop
 loop-again c =
     let a = c .before .before .before .before .args in
-    let l = c .before .before .before .loop in (
-      omega arith,
-      ap₂ (λ b x. b && eqb (getD (a .enable .now) (a .c * wordRoom + l .w) 0) x) (l .inv .1) (c .kept-word .ensures)
-          ∙ sym (all-more _ (l .w)),
-    )
+    let l = c .before .before .before .loop in
+    check-next _ wordRoom _ (l .inv) (omega arith) (ap (eqb (word (a .enable .now) (a .c) (l .w))) (c .kept-word .ensures))
 
 returns : tie.Need-returns Inv-loop μ-loop
-returns c =
-    let last : c .before .loop .w ≡ wordRoom = omega arith in
-    c .before .loop .inv .1 ∙ ap (allTo _) last
+returns c = check-all _ wordRoom (c .before .loop .inv) (c .loop-test .left)
 
 pub words-kept-spec : {M : Type 1} → statement M
 words-kept-spec =

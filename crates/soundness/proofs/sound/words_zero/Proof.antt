@@ -1,26 +1,23 @@
--- `sound::words_zero` meets its contract. The loop's invariant: every word before `w` is zero.
+-- `sound::words_zero` meets its contract. A checking loop over the words.
 -- Assumes nothing.
-use mathlib.Core.Path.{_≡_, _∙_, refl, sym, ap}
-use Prim.Native.Nat.{_+_, _-_, _*_, _≤_}
+use mathlib.Core.Path.{refl}
+use Prim.Native.Nat.{_+_, _-_, _*_}
 use native.Mathlib.Omega.{arith}
-use mathlib.Core.Bool.{_&&_}
 use lib.ListN.{getD}
 use lib.Dec.{eqb}
 use Rattle.limits.specs.Limits.{wordRoom}
-use Rattle.laws.specs.Fold.{allTo}
-use Rattle.laws.proofs.Fold.{all-more}
+use Rattle.soundness.proofs.Checking.{Checking, check-begin, check-next, check-all}
 use Rattle.soundness.proofs.sound.words_zero.Statement.{statement}
 use Rattle.soundness.proofs.sound.words_zero.Tie as tie
 
 abbrev Inv-loop : tie.InvT-loop
-Inv-loop enable c zero₀ w₀ zero w = (w ≤ wordRoom) × (zero ≡ allTo (λ k. eqb (getD enable (c * wordRoom + k) 0) 0) w)
+Inv-loop enable c zero₀ w₀ zero w = Checking (λ k. eqb (getD enable (c * wordRoom + k) 0) 0) wordRoom w zero
 
 abbrev μ-loop : tie.MeasureT-loop
 μ-loop enable c zero₀ w₀ zero w = wordRoom - w
 
 loop-holds : tie.Need-loop-holds Inv-loop μ-loop
-unfolding allTo
-loop-holds c = (omega arith, refl)
+loop-holds c = check-begin _ wordRoom
 
 mul-zero : tie.Need-mul-zero Inv-loop μ-loop
 mul-zero c = omega arith
@@ -41,15 +38,10 @@ loop-less : tie.Need-loop-less Inv-loop μ-loop
 loop-less c = omega arith
 
 loop-again : tie.Need-loop-again Inv-loop μ-loop
-loop-again c =
-    let a = c .before .before .before .args in
-    let l = c .before .before .loop in
-    (omega arith, ap (λ b. b && eqb (getD (a .enable .now) (a .c * wordRoom + l .w) 0) 0) (l .inv .1) ∙ sym (all-more _ (l .w)))
+loop-again c = check-next _ wordRoom _ (c .before .before .loop .inv) (omega arith) refl
 
 returns : tie.Need-returns Inv-loop μ-loop
-returns c =
-    let last : c .before .loop .w ≡ wordRoom = omega arith in
-    c .before .loop .inv .1 ∙ ap (allTo _) last
+returns c = check-all _ wordRoom (c .before .loop .inv) (c .loop-test .left)
 
 pub words-zero-spec : {M : Type 1} → statement M
 words-zero-spec =

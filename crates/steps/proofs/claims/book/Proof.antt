@@ -44,7 +44,9 @@ element-copy-out-bucket-claims : tie.Need-element-copy-out-bucket-claims
 element-copy-out-bucket-claims c = search needs
 
 add-bucket-claims : tie.Need-add-bucket-claims
-add-bucket-claims c = omega (arith, ap (λ (k : ℕ). getD (c .before .before .before .before .args .bucket-claims .now) k 0) (c .before .before .before .bucket-of .ensures .0))
+add-bucket-claims c =
+    let d = c .before .before .before in
+    omega (arith, ap (λ (k : ℕ). getD (d .before .args .bucket-claims .now) k 0) (d .bucket-of .ensures .0))
 
 element-write-bucket-claims : tie.Need-element-write-bucket-claims
 element-write-bucket-claims c = search needs
@@ -56,7 +58,9 @@ element-copy-out-bucket-ticks : tie.Need-element-copy-out-bucket-ticks
 element-copy-out-bucket-ticks c = search needs
 
 add-bucket-ticks : tie.Need-add-bucket-ticks
-add-bucket-ticks c = omega (arith, ap (λ (k : ℕ). getD (c .before .before .before .before .before .args .bucket-ticks .now) k 0) (c .before .before .before .before .bucket-of .ensures .0))
+add-bucket-ticks c =
+    let d = c .before .before .before .before in
+    omega (arith, ap (λ (k : ℕ). getD (d .before .args .bucket-ticks .now) k 0) (d .bucket-of .ensures .0))
 
 element-write-bucket-ticks : tie.Need-element-write-bucket-ticks
 element-write-bucket-ticks c = search needs
