@@ -10,7 +10,7 @@ use Rattle.model.specs.declared.Answered.{Answered}
 use Rattle.model.specs.declared.Averaged.{Averaged}
 use Rattle.model.specs.declared.Totalled.{Totalled}
 use Rattle.model.specs.declared.Refusal.{Refusal}
-use Rattle.model.specs.Board.{zeroState}
+use Rattle.model.specs.Board.{zeroState, withinLimits}
 use Rattle.model.specs.Refusals.{numberOf, answered, averaged, totalled}
 use Rattle.model.specs.Sound.{sound}
 use Rattle.model.specs.Calls.{line, advance, read, write, notification, mean, byClaim, byTime, totals, respond, make}
@@ -49,6 +49,10 @@ module _ (s : State) where
 
   pub sound-fixed : (x y : Bool) → x ≡ sound s → y ≡ sound s → x ≡ y
   sound-fixed x y p q = p ∙ sym q
+
+-- the one public function of `soundness` that is not passed on as a call
+pub within-limits-fixed : (n m b : ℕ) (x y : Bool) → x ≡ withinLimits n m b → y ≡ withinLimits n m b → x ≡ y
+within-limits-fixed n m b x y p q = p ∙ sym q
 
 pub zero-fixed : (x y : State) → x ≡ zeroState → y ≡ zeroState → x ≡ y
 zero-fixed x y p q = p ∙ sym q
