@@ -21,7 +21,7 @@ use Rattle.commands.specs.declared.Opening.the-variants as opening
 use Rattle.commands.specs.Grammar.{commandOf, openingOf}
 use Rattle.replaying.specs.Replay.{before, on, ended, Told, refusedLine, kindBytes, started, badStart, firstLine, answer}
 use Rattle.replaying.proofs.Through.{cut-answer}
-use Rattle.feeding.proofs.Obeyed.{SoundAt, not-zero}
+use Rattle.obeying.proofs.Obeyed.{SoundAt, not-zero}
 
 made-stand : (n m b : ℕ) (kinds : List ℕ) → SoundAt (started (make n m b kinds) .stand)
 unfolding started

@@ -19,9 +19,10 @@ use Rattle.replaying.specs.Pieces.{lineLength, lineFeeds, padded, paused}
 use Rattle.replaying.proofs.Chunks.{fed-apart}
 use Rattle.replaying.proofs.Print.{written-length, written-then, written-put}
 use Rattle.replaying.proofs.Ends.{fed-held, line-most, line-more, feeds-most, feeds-part, feeds-more}
+use Rattle.obeying.specs.Obey.{Obeyed}
+use Rattle.obeying.proofs.Obeyed.{obeyed-sound}
 use Rattle.feeding.specs.declared.progress.Progress.{Progress}
-use Rattle.feeding.specs.Engine.{Obeyed, boarded, FeedsBoard}
-use Rattle.feeding.proofs.Obeyed.{obeyed-sound}
+use Rattle.feeding.specs.Engine.{boarded, FeedsBoard}
 
 -- the rest of a slice from a place on
 pub rest-of : (n : ℕ) (l : List ℕ) → take (length l - n) (drop n l) ≡ drop n l

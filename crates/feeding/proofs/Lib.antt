@@ -1,4 +1,3 @@
-pub mod Obeyed
 pub mod Going
 pub mod Rooms
 pub mod FirstLines

@@ -3,7 +3,6 @@
 mod buffer;
 mod ending;
 mod lines;
-mod obey;
 mod opening;
 mod pieces;
 mod progress;

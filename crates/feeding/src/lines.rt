@@ -1,6 +1,5 @@
 // The lines of a piece of a script, on a board. The state is in local arrays for as long as the piece lasts, and sound by proof: no
 // command checks it again or copies it.
-use crate::obey::obey;
 use crate::progress::Progress;
 use crate::progress::standing;
 use model::Buckets;
@@ -9,6 +8,7 @@ use model::Requests;
 use model::Settings;
 use model::Shape;
 use model::State;
+use obeying::obey;
 use replaying::Place;
 ghost use mathlib.Core.Path.{_≡_};
 ghost use Prim.Native.Nat.{ℕ, _+_, _*_, _≤_};

@@ -5,9 +5,9 @@ use Rattle.model.specs.declared.State.{State}
 use Rattle.replaying.specs.Replay.{commanded}
 use Rattle.steps.specs.Arrays.{settingsOf, requestsOf, countsOf, bucketsOf, stateOf}
 use Rattle.steps.proofs.Bookings.{bookable}
-use Rattle.feeding.proofs.Obeyed.{same-command, unreadable-obeyed, line-obeyed, advance-obeyed, read-obeyed, write-obeyed, notify-obeyed}
-use Rattle.feeding.proofs.obey.obey.Statement.{statement}
-use Rattle.feeding.proofs.obey.obey.Tie as tie
+use Rattle.obeying.proofs.Obeyed.{same-command, unreadable-obeyed, line-obeyed, advance-obeyed, read-obeyed, write-obeyed, notify-obeyed}
+use Rattle.obeying.proofs.command.obey.Statement.{statement}
+use Rattle.obeying.proofs.command.obey.Tie as tie
 
 -- the state that the arrays make up at entry
 abbrev entry : tie.Start → State

@@ -12,9 +12,9 @@ use Rattle.replaying.specs.declared.Said.the-variants.{Nothing}
 use Rattle.leaves.specs.Checks.{checkNumber, accessGrounds}
 use Rattle.leaves.proofs.Passed.{step-passed}
 use Rattle.steps.specs.Arrays.{settingsOf, requestsOf, settingsWritten, requestsWritten}
-use Rattle.feeding.proofs.Obeyed.{reply-refused, reply-passed, stays, goes}
-use Rattle.feeding.proofs.obey.obey_write.Statement.{statement}
-use Rattle.feeding.proofs.obey.obey_write.Tie as tie
+use Rattle.obeying.proofs.Obeyed.{reply-refused, reply-passed, stays, goes}
+use Rattle.obeying.proofs.command.obey_write.Statement.{statement}
+use Rattle.obeying.proofs.command.obey_write.Tie as tie
 
 -- by what stands at entry: what a write to a register leaves of the settings and of the requests
 abbrev sets-to : tie.Start → Register → Settings

@@ -4,8 +4,8 @@ use borrow.Author.Needs.{needs}
 use mathlib.Core.Path.{ap}
 use Prim.Native.Nat.{ℕ}
 use Rattle.replaying.specs.declared.Said.the-variants.{Refused}
-use Rattle.feeding.proofs.obey.refused.Statement.{statement}
-use Rattle.feeding.proofs.obey.refused.Tie as tie
+use Rattle.obeying.proofs.command.refused.Statement.{statement}
+use Rattle.obeying.proofs.command.refused.Tie as tie
 
 number-of-requires : tie.Need-number-of-requires
 number-of-requires c κs = search needs

@@ -10,9 +10,9 @@ use Rattle.replaying.specs.declared.Said.the-variants.{Value}
 use Rattle.leaves.specs.Checks.{checkNumber, accessGrounds}
 use Rattle.leaves.proofs.Passed.{step-passed}
 use Rattle.steps.specs.Arrays.{countsOf, bucketsOf, readIn, claimedIn}
-use Rattle.feeding.proofs.Obeyed.{reply-refused, reply-passed, stays, goes, unclaimed, claimed-as}
-use Rattle.feeding.proofs.obey.obey_read.Statement.{statement}
-use Rattle.feeding.proofs.obey.obey_read.Tie as tie
+use Rattle.obeying.proofs.Obeyed.{reply-refused, reply-passed, stays, goes, unclaimed, claimed-as}
+use Rattle.obeying.proofs.command.obey_read.Statement.{statement}
+use Rattle.obeying.proofs.command.obey_read.Tie as tie
 
 -- by what stands at entry: the value of a register, and the source that a read of it claims
 abbrev reads : tie.Start → Register → ℕ

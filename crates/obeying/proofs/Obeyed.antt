@@ -38,8 +38,8 @@ use Rattle.leaves.specs.Checks.{lineGrounds, advanceGrounds, accessGrounds, con
 use Rattle.steps.specs.Arrays.{requestsOf, lineSet, Claimed, readIn, claimedIn, settingsWritten, requestsWritten}
 use Rattle.steps.proofs.Whole.{withWritten, line-whole, read-value, read-whole, untouched, write-whole}
 use Rattle.plic.proofs.Refusing.{Owns, line-owns, advance-owns, read-owns, write-owns, notification-owns, own-number}
-use Rattle.feeding.specs.declared.obey.Reply.{Reply}
-use Rattle.feeding.specs.Engine.{Obeyed, stepReply, notifySaid}
+use Rattle.obeying.specs.declared.command.Reply.{Reply}
+use Rattle.obeying.specs.Obey.{Obeyed, stepReply, notifySaid}
 
 pub not-zero : (r : Refusal) → eqb (numberOf r) 0 ≡ false
 not-zero r =

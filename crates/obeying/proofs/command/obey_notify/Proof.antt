@@ -12,11 +12,11 @@ use Rattle.replaying.specs.declared.Said.{Said}
 use Rattle.replaying.specs.declared.Said.the-variants.{Value, Refused}
 use Rattle.leaves.specs.Checks.{checkNumber, contextGrounds}
 use Rattle.leaves.proofs.Passed.{context-passed}
-use Rattle.feeding.specs.declared.obey.Reply.{Reply}
-use Rattle.feeding.specs.Engine.{notifySaid}
-use Rattle.feeding.proofs.Obeyed.{stays, goes}
-use Rattle.feeding.proofs.obey.obey_notify.Statement.{statement}
-use Rattle.feeding.proofs.obey.obey_notify.Tie as tie
+use Rattle.obeying.specs.declared.command.Reply.{Reply}
+use Rattle.obeying.specs.Obey.{notifySaid}
+use Rattle.obeying.proofs.Obeyed.{stays, goes}
+use Rattle.obeying.proofs.command.obey_notify.Statement.{statement}
+use Rattle.obeying.proofs.command.obey_notify.Tie as tie
 
 -- where the check passes, its number is 0, and the context is one of the board
 none : (c : tie.After-enum-told) → let a = c .before .before .before .args in firstOf (contextGrounds (a .m) (a .context)) ≡ 0

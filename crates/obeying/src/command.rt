@@ -29,13 +29,13 @@ ghost use Rattle.model.specs.Registers.{decode};
 ghost use Rattle.model.specs.Sound.{Sound};
 ghost use Rattle.leaves.specs.Checks.{lineGrounds, advanceGrounds, accessGrounds};
 ghost use Rattle.steps.specs.Arrays.{settingsOf, requestsOf, countsOf, bucketsOf, stateOf, lineSet, readIn, claimedIn, settingsWritten, requestsWritten, Bookable, Claimed};
-ghost use Rattle.feeding.specs.Engine.{stepReply, notifySaid, Obeyed};
+ghost use Rattle.obeying.specs.Obey.{stepReply, notifySaid, Obeyed};
 
 // What a command does beside the arrays: the clock and the step count after it, and what it prints.
-pub(crate) struct Reply {
-    pub(crate) clock: u32,
-    pub(crate) steps: u32,
-    pub(crate) said: Said,
+pub struct Reply {
+    pub clock: u32,
+    pub steps: u32,
+    pub said: Said,
 }
 
 // A refused command leaves the state as it was.
@@ -251,7 +251,7 @@ fn obey_notify<'a>(
 }
 
 // A command that is not the first line: a later `P` is unreadable. It joins all commands, so it is lent the whole state.
-pub(crate) fn obey(
+pub fn obey(
     command: Command,
     n: u32,
     m: u32,

@@ -10,9 +10,9 @@ use Prim.Native.Nat.{_<_}
 use Rattle.limits.specs.Limits.{sourceRoom}
 use Rattle.model.proofs.Claim.{source-range}
 use Rattle.replaying.specs.declared.Said.the-variants.{Nothing}
-use Rattle.feeding.proofs.Obeyed.{reply-refused, reply-passed, stays, goes}
-use Rattle.feeding.proofs.obey.obey_line.Statement.{statement}
-use Rattle.feeding.proofs.obey.obey_line.Tie as tie
+use Rattle.obeying.proofs.Obeyed.{reply-refused, reply-passed, stays, goes}
+use Rattle.obeying.proofs.command.obey_line.Statement.{statement}
+use Rattle.obeying.proofs.command.obey_line.Tie as tie
 
 -- where the check passes, its number is 0, and the source is one of the board
 none : (c : tie.After-enum-told) → let a = c .before .before .before .args in firstOf (lineGrounds (a .steps) (a .n) (a .i)) ≡ 0

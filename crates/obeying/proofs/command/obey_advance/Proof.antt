@@ -8,9 +8,9 @@ use Rattle.leaves.specs.Checks.{checkNumber, advanceGrounds}
 use Rattle.leaves.proofs.Passed.{advance-passed}
 use Prim.Native.Nat.{_+_}
 use Rattle.replaying.specs.declared.Said.the-variants.{Nothing}
-use Rattle.feeding.proofs.Obeyed.{reply-refused, reply-passed}
-use Rattle.feeding.proofs.obey.obey_advance.Statement.{statement}
-use Rattle.feeding.proofs.obey.obey_advance.Tie as tie
+use Rattle.obeying.proofs.Obeyed.{reply-refused, reply-passed}
+use Rattle.obeying.proofs.command.obey_advance.Statement.{statement}
+use Rattle.obeying.proofs.command.obey_advance.Tie as tie
 
 -- where the check passes, its number is 0
 none : (c : tie.After-enum-told) → let a = c .before .before .before .args in firstOf (advanceGrounds (a .steps) (a .clock) (a .ticks)) ≡ 0
