@@ -17,13 +17,14 @@ use Rattle.model.specs.Waits.{isInService, wait, bucketOf, counted, book
 use Rattle.model.specs.Life.{winner, served, claimOf, claimBy}
 use Rattle.model.specs.Registers.{readOf, afterRead}
 use Rattle.model.specs.Sound.{Sound}
-use Rattle.model.proofs.Board.{request-same}
+use Rattle.model.proofs.Board.{request-same, request-other}
 use Rattle.model.proofs.Claim.{winner-is}
 use Rattle.model.proofs.Waits.{bucket-holds}
 use Rattle.model.proofs.Tallies.{counted-same, counted-other}
 use Rattle.model.proofs.Plain.{here}
 
--- a claim of source i that waited w, booked: it is in service, and its wait stands with the source and with the bucket, and nowhere else
+-- a claim of source i that waited w, booked: it is in service, its wait stands with the source and with the bucket, and nowhere
+-- else, and no other source's request is touched
 pub record Booked (s t : State) (i w : ℕ) : Type 0 where
   pub service : So (isInService (request (t .requests) i))
   pub claims : sourceClaims (t .counts) i ≡ sourceClaims (s .counts) i + 1
@@ -31,6 +32,7 @@ pub record Booked (s t : State) (i w : ℕ) : Type 0 where
   pub inBucket : bucketClaims (t .buckets) (bucketOf w) ≡ bucketClaims (s .buckets) (bucketOf w) + 1
   pub ticks : bucketTicks (t .buckets) (bucketOf w) ≡ bucketTicks (s .buckets) (bucketOf w) + w
   pub otherSources : (j : ℕ) → j ≢ i → (sourceClaims (t .counts) j ≡ sourceClaims (s .counts) j) × (sourceWaited (t .counts) j ≡ sourceWaited (s .counts) j)
+  pub otherRequests : (j : ℕ) → j ≢ i → request (t .requests) j ≡ request (s .requests) j
   pub otherBuckets : (k : ℕ) → k ≢ bucketOf w → (bucketClaims (t .buckets) k ≡ bucketClaims (s .buckets) k) × (bucketTicks (t .buckets) k ≡ bucketTicks (s .buckets) k)
 
 module _ (s : State) (sound : Sound s) (c : ℕ) where
@@ -44,6 +46,7 @@ module _ (s : State) (sound : Sound s) (c : ℕ) where
     inBucket = unfold booked bucketClaims in getD-set-same (s .buckets .claims) (bucketOf w) _ 0 (omega (arith, bucket, sound .types .bucketClaims));
     ticks = unfold booked bucketTicks in getD-set-same (s .buckets .ticks) (bucketOf w) _ 0 (omega (arith, bucket, sound .types .bucketTicks));
     otherSources = counted-other (s .counts) i w;
+    otherRequests = λ j ne. request-other (s .requests) i _ j ne;
     otherBuckets = λ k ne. unfold booked bucketClaims bucketTicks in (
       getD-set-other (s .buckets .claims) (bucketOf w) k _ 0 ne,
       getD-set-other (s .buckets .ticks) (bucketOf w) k _ 0 ne,

@@ -13,10 +13,10 @@ use Rattle.laws.specs.Fold.{allOf}
 use Rattle.laws.proofs.Fold.{test-at}
 use Rattle.model.specs.declared.State.{State}
 use Rattle.model.specs.declared.Request.{Request}
-use Rattle.model.specs.declared.Register.the-variants.{Claim}
-use Rattle.model.specs.Board.{request, isSource, kindOf, withRequest}
+use Rattle.model.specs.declared.Register.the-variants.{Claim, Pending}
+use Rattle.model.specs.Board.{request, isSource, kindOf, withRequest, withClock}
 use Rattle.model.specs.Waits.{isIdle, isPending, isInService}
-use Rattle.model.specs.Life.{lineAt, raised, edgeCounted, levelChanged, edgeChanged, lineChanged, lineChange, takesEffect, TakesEffect, idled, edgeTaken, completed, completeBy}
+use Rattle.model.specs.Life.{lineAt, advanced, raised, edgeCounted, levelChanged, edgeChanged, lineChanged, lineChange, takesEffect, TakesEffect, idled, edgeTaken, completed, completeBy}
 use Rattle.model.specs.Registers.{afterWrite}
 use Rattle.model.specs.Sound.{Sound}
 use Rattle.model.proofs.Board.{request-same, request-other}
@@ -132,6 +132,17 @@ module _ (s : State) (sound : Sound s) (i : ℕ) (source : So (isSource (s .shap
 pub line-others : (s : State) (i : ℕ) (v : Bool) (j : ℕ) → j ≢ i → request (lineChange s i v .requests) j ≡ request (s .requests) j
 unfolding lineChange withRequest
 line-others s i v j ne = request-other (s .requests) i _ j ne
+
+-- "A clock advance by n ticks adds n to the clock; beside that, open ages and the step count, it changes nothing": with its clock put
+-- back it is the state from before. (The step is counted by `respond`.)
+pub advance-alone : (s : State) (n : ℕ) → (advanced s n .clock ≡ s .clock + n) × (withClock (advanced s n) (s .clock) ≡ s)
+unfolding advanced withClock
+advance-alone s n = (refl, refl)
+
+-- "Writes" to pending bits "change nothing."
+pub pending-written : (s : State) (w v : ℕ) → afterWrite s (Pending w) v ≡ s
+unfolding afterWrite
+pending-written s w v = refl
 
 -- "a level source with high line, or a counting source with extra edges"
 abbrev pub Again : ℕ → Request → Type 0
