@@ -44,10 +44,8 @@ fn feed_board(state: State, begun: &[u8], input: &[u8], output: &mut [u8]) -> Pr
     let bytes = line.bytes;
     let count = line.count;
     let first = feed_lines(state, &bytes[..count], output, 0);
-    let replay = first.replay;
-    let next = replay.state;
     let from = end + 1;
-    feed_lines(next, &input[from..], output, first.written)
+    feed_lines(first.replay.state, &input[from..], output, first.written)
 }
 
 // A piece before the end of the first line.

@@ -1,7 +1,5 @@
 // `probe`: a state at hand, one command a line, each command one public call on that state. For testing, and for looking inside.
-mod look;
 mod obey;
-mod out;
 mod reader;
 mod reply;
 

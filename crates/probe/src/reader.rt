@@ -1,8 +1,8 @@
 // The reader: the state at hand, the line that is being read, and what waits to be written. Bytes come in, lines are obeyed.
-use crate::look::look;
 use crate::obey::obey;
-use crate::out::Out;
 use model::State;
+use probing::look::look;
+use probing::out::Out;
 use probing::text::Text;
 use probing::text::first;
 use probing::words::next_of;

@@ -31,32 +31,31 @@ fn is_over(replay: Replaying) -> bool {
     }
 }
 
+// Writes what a piece printed, and answers whether it could be written. A replay that is refused has printed nothing, and cannot go on.
+fn write_printed(taken: Taken, output: &[u8]) -> bool {
+    match taken {
+        Taken::Bytes(_, printed) => write_first(output, printed),
+        Taken::Refused(_) => false,
+    }
+}
+
 // Feeds a piece, and writes what it prints.
 fn step(replay: Replaying, input: &[u8], output: &mut [u8]) -> Stepped {
     let fed = feeding::feed(replay, input, output);
     let taken = fed.taken;
     let next = fed.replay;
-    match taken {
-        Taken::Bytes(_, printed) => {
-            let is_written = write_first(output, printed);
-            Stepped {
-                replay: next,
-                goes_on: is_written & !is_over(next),
-            }
-        }
-        Taken::Refused(_) => Stepped {
-            replay: next,
-            goes_on: false,
-        },
+    Stepped {
+        replay: next,
+        goes_on: write_printed(taken, output),
     }
 }
 
 // The output has 20 bytes for each of the input, so that every piece is taken whole. An input that fails has ended; a closed output and
-// a refused first line end the program. Nothing says that an input ends, and a proved loop has to: so the turns are counted down, from a number that no run
-// uses up.
+// a refused first line end the program. Nothing says that an input ends, and a proved loop has to: so the turns are counted down, from a
+// number that no run uses up.
 fn main() {
-    let mut input = [0u8; 32768];
-    let mut output = [0u8; 655360];
+    let mut input = [0u8; 16384];
+    let mut output = [0u8; 327680];
     let mut replay = feeding::start();
     let mut turns = u64::MAX;
     while turns > 0 {
@@ -71,6 +70,9 @@ fn main() {
         }
         let next = made.replay;
         replay = next;
+        if is_over(replay) {
+            return;
+        }
         turns -= 1;
     }
     let ending = feeding::finish(replay);

@@ -8,7 +8,7 @@ use Rattle.replay.proofs.main.Statement.{statement}
 use Rattle.replay.proofs.main.Tie as tie
 
 abbrev Inv-loop : tie.InvT-loop
-Inv-loop input₀ output₀ replay₀ turns₀ input output replay turns = (length input ≡ 32768) × (length output ≡ 655360)
+Inv-loop input₀ output₀ replay₀ turns₀ input output replay turns = (length input ≡ 16384) × (length output ≡ 327680)
 
 abbrev μ-loop : tie.MeasureT-loop
 μ-loop input₀ output₀ replay₀ turns₀ input output replay turns = turns
@@ -17,7 +17,7 @@ start-requires : tie.Need-start-requires Inv-loop μ-loop
 start-requires c κs = tt
 
 loop-holds : tie.Need-loop-holds Inv-loop μ-loop
-loop-holds c = (length-replicate {A = ℕ} 32768 0, length-replicate {A = ℕ} 655360 0)
+loop-holds c = (length-replicate {A = ℕ} 16384 0, length-replicate {A = ℕ} 327680 0)
 
 slice-aggregate-read : tie.Need-slice-aggregate-read Inv-loop μ-loop
 slice-aggregate-read c = search needs
@@ -46,6 +46,12 @@ step-requires c κs = tt
 returns : tie.Need-returns Inv-loop μ-loop
 returns c = tt
 
+is-over-requires : tie.Need-is-over-requires Inv-loop μ-loop
+is-over-requires c κs = tt
+
+returns-2 : tie.Need-returns-2 Inv-loop μ-loop
+returns-2 c = tt
+
 sub-turns : tie.Need-sub-turns Inv-loop μ-loop
 sub-turns c = omega arith
 
@@ -54,7 +60,7 @@ loop-less c = omega arith
 
 loop-again : tie.Need-loop-again Inv-loop μ-loop
 loop-again c =
-    let stepped = c .before .before .before .before in
+    let stepped = c .before .before .before .before .before .before in
     let got = stepped .before .before .before .before .before .before .before in
     let inv = got .before .before .before .loop .inv in
     (got .read .kept .1 .0 ∙ inv .0, stepped .step .kept .1 .1 .0 ∙ inv .1)
@@ -77,11 +83,11 @@ write-first-requires c κs = tt
 enum-told : tie.Need-enum-told Inv-loop μ-loop
 enum-told c = search needs
 
-returns-2 : tie.Need-returns-2 Inv-loop μ-loop
-returns-2 c = tt
-
 returns-3 : tie.Need-returns-3 Inv-loop μ-loop
 returns-3 c = tt
+
+returns-4 : tie.Need-returns-4 Inv-loop μ-loop
+returns-4 c = tt
 
 pub main-spec : {M : Type 1} → statement M
 main-spec =
@@ -100,6 +106,8 @@ main-spec =
     slice-aggregate-step-2
     step-requires
     returns
+    is-over-requires
+    returns-2
     sub-turns
     loop-less
     loop-again
@@ -109,5 +117,5 @@ main-spec =
     cast-write-first
     write-first-requires
     enum-told
-    returns-2
-    returns-3)
+    returns-3
+    returns-4)

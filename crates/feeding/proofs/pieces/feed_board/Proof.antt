@@ -92,26 +92,26 @@ feed-lines-requires-2 c κs =
 
 add-from : tie.Need-add-from
 add-from c =
-    let e = c .before .before .before .before .before .before .before .before .before .before in
+    let e = c .before .before .before .before .before .before .before .before in
     omega (arith, within e, e .before .before .before .before .before .before .good .1 .1 .0)
 
 sub-feed-lines : tie.Need-sub-feed-lines
-sub-feed-lines c = omega (arith, within (c .before .before .before .before .before .before .before .before .before .before))
+sub-feed-lines c = omega (arith, within (c .before .before .before .before .before .before .before .before))
 
 part-feed-lines-start : tie.Need-part-feed-lines-start
-part-feed-lines-start c = omega (arith, within (c .before .before .before .before .before .before .before .before .before .before))
+part-feed-lines-start c = omega (arith, within (c .before .before .before .before .before .before .before .before))
 
 part-feed-lines-end : tie.Need-part-feed-lines-end
 part-feed-lines-end c = search needs
 
 feed-lines-requires-3 : tie.Need-feed-lines-requires-3
 feed-lines-requires-3 c κs =
-    let e = c .before .before .before .before .before .before .before .before .before .before .before .before in
+    let e = c .before .before .before .before .before .before .before .before .before .before in
     let s = e .before .before .before .before .before .before in
     let input = s .args .input .now in
     let from = e .before .line-end .result + 1 in
     let rest = take (length input - from) (drop from input) in
-    let first = c .before .before .before .before .before .before .feed-lines2 .ensures in
+    let first = c .before .before .before .before .feed-lines2 .ensures in
     let short = min-le-left (length input - from) (length (drop from input)) in (
       first .sound,
       omega (
@@ -119,7 +119,7 @@ feed-lines-requires-3 c κs =
         s .pre .3,
         within e,
         first .answers,
-        one (c .before .before .before .before .before .before .before .before .before .before),
+        one (c .before .before .before .before .before .before .before .before),
         feeds-most rest,
         length-take (length input - from) (drop from input),
         short,
@@ -132,14 +132,14 @@ same-length-2 c = search needs
 
 returns-3 : tie.Need-returns-3
 returns-3 c =
-    let e = c .before .before .before .before .before .before .before .before .before .before .before .before .before .before .before in
+    let e = c .before .before .before .before .before .before .before .before .before .before .before .before .before in
     let s = e .before .before .before .before .before .before in
     let a = s .args in
-    let first = c .before .before .before .before .before .before .before .before .before .feed-lines2 in
+    let first = c .before .before .before .before .before .before .before .feed-lines2 in
     let rest = c .before .before .feed-lines3 in
     feeds-board (a .state) (a .begun .now) (a .input .now) (a .output .now) (first .last .1 .1 .0) (rest .last .1 .1 .0) _ (e .before .line-end .result)
     (first .result) (rest .result) (s .pre .2) (e .before .line-end .ensures) (e .if2 .left)
-    (c .before .before .before .before .before .before .before .before .before .before .before .before .before .with-line-feed .ensures .0)
+    (c .before .before .before .before .before .before .before .before .before .before .before .with-line-feed .ensures .0)
     (first .ensures) (rest .ensures .feeds)
 
 pub feed-board-spec : {M : Type 1} → statement M

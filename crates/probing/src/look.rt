@@ -1,13 +1,13 @@
 // Looking: `V` shows every field that is not zero.
+use crate::fields::FIELDS;
+use crate::fields::Field;
+use crate::fields::field_at;
+use crate::fields::last_index;
+use crate::fields::with_name;
 use crate::out::Out;
+use crate::text::Text;
+use crate::values::value_of;
 use model::State;
-use probing::fields::FIELDS;
-use probing::fields::Field;
-use probing::fields::field_at;
-use probing::fields::last_index;
-use probing::fields::with_name;
-use probing::text::Text;
-use probing::values::value_of;
 
 // A field's value at an index, unless it is zero.
 fn show(out: Out, state: State, field: Field, i: u64) -> Out {
@@ -30,7 +30,7 @@ fn show_field(out: Out, state: State, field: Field) -> Out {
     shown
 }
 
-pub(crate) fn look(state: State, out: Out) -> Out {
+pub fn look(state: State, out: Out) -> Out {
     let mut shown = out;
     let mut k = 0;
     while k < FIELDS {

@@ -2,8 +2,8 @@
 use borrow.Author.Needs.{needs}
 use Prim.Native.Nat.{_-_}
 use native.Mathlib.Omega.{arith}
-use Rattle.probe.proofs.look.look.Statement.{statement}
-use Rattle.probe.proofs.look.look.Tie as tie
+use Rattle.probing.proofs.look.look.Statement.{statement}
+use Rattle.probing.proofs.look.look.Tie as tie
 
 abbrev Inv-loop : tie.InvT-loop
 Inv-loop state shown₀ k₀ t5 shown k = Unit {0}

@@ -1,22 +1,22 @@
 // The output: kept back until there may be no room for the next line, so that few lines cost a call of the system.
+use crate::text::Text;
+use crate::text::append;
+use crate::text::first;
 use libc::STDOUT_FILENO;
-use probing::text::Text;
-use probing::text::append;
-use probing::text::first;
 
 const ROOM: usize = 4096;
 
 // Above this the longest text may not fit.
 const FULL: usize = ROOM - limits::HELD_ROOM;
 
-pub(crate) struct Out {
+pub struct Out {
     bytes: [u8; ROOM],
     used: usize,
-    pub(crate) is_open: bool,
+    pub is_open: bool,
 }
 
 impl Out {
-    pub(crate) fn new() -> Out {
+    pub fn new() -> Out {
         Out {
             bytes: [0u8; ROOM],
             used: 0,
@@ -25,7 +25,7 @@ impl Out {
     }
 
     // What was kept back is written. After a write that failed the output is closed, and nothing more is written.
-    pub(crate) fn flushed(self) -> Out {
+    pub fn flushed(self) -> Out {
         if !self.is_open {
             return self;
         }
@@ -45,7 +45,7 @@ impl Out {
         self.flushed()
     }
 
-    pub(crate) fn line(self, text: Text) -> Out {
+    pub fn line(self, text: Text) -> Out {
         let ready = self.with_room();
         let mut bytes = ready.bytes;
         let part = text.bytes;

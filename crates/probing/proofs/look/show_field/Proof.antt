@@ -1,8 +1,8 @@
 -- `look::show_field` is safe and ends. Assumes nothing.
 use Prim.Native.Nat.{_+_, _-_}
 use native.Mathlib.Omega.{arith}
-use Rattle.probe.proofs.look.show_field.Statement.{statement}
-use Rattle.probe.proofs.look.show_field.Tie as tie
+use Rattle.probing.proofs.look.show_field.Statement.{statement}
+use Rattle.probing.proofs.look.show_field.Tie as tie
 
 abbrev Inv-loop : tie.InvT-loop
 Inv-loop state field last shown₀ i₀ shown i = Unit {0}
