@@ -7,10 +7,10 @@ use replaying::Place;
 use replaying::Replaying;
 use replaying::Taken;
 
-// The replay after a piece, and whether to go on.
+// The replay after a piece, and whether what it printed could be written.
 struct Stepped {
     replay: Replaying,
-    goes_on: bool,
+    is_written: bool,
 }
 
 // Writes the first n bytes, and answers whether they could be written.
@@ -46,7 +46,7 @@ fn step(replay: Replaying, input: &[u8], output: &mut [u8]) -> Stepped {
     let next = fed.replay;
     Stepped {
         replay: next,
-        goes_on: write_printed(taken, output),
+        is_written: write_printed(taken, output),
     }
 }
 
@@ -65,7 +65,7 @@ fn main() {
             break;
         }
         let made = step(replay, &input[..n], &mut output);
-        if !made.goes_on {
+        if !made.is_written {
             return;
         }
         let next = made.replay;

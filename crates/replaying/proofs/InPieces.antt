@@ -86,7 +86,8 @@ tight-fed-all r (b ∷ bs) =
 pub padded-held : (l : List ℕ) → take (length (take heldRoom l)) (padded l) ≡ take heldRoom l
 unfolding padded
 padded-held l =
-    ap (take (length (take heldRoom l))) (sets-eq (take heldRoom l) (replicate heldRoom 0) 0 (omega (arith, length-take heldRoom l, length-replicate {A = ℕ} heldRoom 0, zero-add (length (take heldRoom l)), min-le-left heldRoom (length l))))
+    ap (take (length (take heldRoom l))) (sets-eq (take heldRoom l) (replicate heldRoom 0) 0
+    (omega (arith, length-take heldRoom l, length-replicate {A = ℕ} heldRoom 0, zero-add (length (take heldRoom l)), min-le-left heldRoom (length l))))
     ∙ take-append-seam (take heldRoom l) (drop (0 + length (take heldRoom l)) (replicate heldRoom 0))
 
 -- the replay that is held is the cut one, and the cut one is held alike
