@@ -16,7 +16,8 @@ use Rattle.model.specs.declared.Refusal.{Refusal}
 use Rattle.model.specs.Board.{withSteps}
 use Rattle.model.specs.Refusals.{numberOf, Ground, firstOf, Smallest}
 use Rattle.model.proofs.Refusals.{number-back}
-use Rattle.model.specs.Calls.{Call, line, advance, read, write, notification, mean, byClaim, byTime, totals, isStep, notSound, noStepLeft, offsetAbove, offsetUnaligned, noSuchSource, noSuchContext, clockPast, perMilleOutside, nothingToDivide, grounds, valuesOf, effect, after, respond}
+use Rattle.model.specs.Calls.{Call, line, advance, read, write, notification, mean, byClaim, byTime, totals, isStep, grounds, valuesOf, effect, after, respond}
+use Rattle.model.specs.Calls.{notSound, noStepLeft, offsetAbove, offsetUnaligned, noSuchSource, noSuchContext, clockPast, perMilleOutside, nothingToDivide}
 
 -- numbers that rise, from above n on
 abbrev pub Rising : ℕ → List Ground → Type 0

@@ -14,7 +14,8 @@ use Rattle.model.specs.Board.{isSource, isContext}
 use Rattle.model.specs.Refusals.{Ground, firstOf}
 use Rattle.model.specs.Waits.{boardClaims, boardWaited}
 use Rattle.model.specs.Sound.{sound, Sound}
-use Rattle.model.specs.Calls.{Call, line, advance, read, write, notification, mean, byClaim, byTime, totals, isStep, notSound, noStepLeft, offsetAbove, offsetUnaligned, noSuchSource, noSuchContext, clockPast, perMilleOutside, nothingToDivide, grounds, respond}
+use Rattle.model.specs.Calls.{Call, line, advance, read, write, notification, mean, byClaim, byTime, totals, isStep, grounds, respond}
+use Rattle.model.specs.Calls.{notSound, noStepLeft, offsetAbove, offsetUnaligned, noSuchSource, noSuchContext, clockPast, perMilleOutside, nothingToDivide}
 use Rattle.model.proofs.Sound.{sound-facts, sound-test}
 use Rattle.model.proofs.Claim.{source-range, range-source}
 use Rattle.model.proofs.Answers.{Rising, rising-above, smallest-of, rising, first-hit, first-miss}
