@@ -1,19 +1,22 @@
 -- A script fed by the functions themselves: from `start`, its pieces with room for each, then `finish`, print `replay` of the whole.
 -- Assumes nothing.
-use mathlib.Core.Path.{_≡_, _∙_, refl, sym, ap}
+use mathlib.Core.Path.{_≡_, _∙_, refl, sym, ap, subst}
 use mathlib.Core.List.{List, [], _∷_, _++_}
-use Prim.Native.Nat.{ℕ, _+_, _/_, _≤_}
-use native.Mathlib.Nat.{zero-add}
+use Prim.Native.Nat.{ℕ, _+_, _*_, _/_, _≤_}
+use native.Mathlib.Nat.{zero-add, div-add-mod, mod-lt}
 use native.Mathlib.Omega.{arith}
 use lib.ListN.{length, getD, take, drop, replicate, length-replicate}
 use lib.Seq.{sets, sets-eq, take-all, take-append-seam}
 use Rattle.laws.proofs.Truth.{cond-so}
-use Rattle.model.specs.Refusals.{answerValues}
+use Rattle.model.specs.declared.Answer.the-variants.{Value}
+use Rattle.model.specs.declared.Refusal.the-variants.{NotSound}
+use Rattle.model.specs.Refusals.{numberOf, answerNumber, answerValues}
 use Rattle.replaying.specs.declared.Fed.{Fed}
+use Rattle.replaying.specs.declared.Taken.the-variants.{Bytes}
 use Rattle.replaying.specs.declared.Ending.{Ending}
 use Rattle.replaying.specs.declared.Replaying.{Replaying}
 use Rattle.replaying.specs.Replay.{before, Replay, fedAll, fresh, replay}
-use Rattle.replaying.specs.Pieces.{shown, paused, Feeding, printedBy, fedOf, partOf, accepted, feeding, ending, Finishing, endingOf, finishing, Replayed, fedPieces, printedInPieces, joinedPieces}
+use Rattle.replaying.specs.Pieces.{shown, paused, Feeding, takenNumber, takenValues, printedBy, fedOf, partOf, accepted, feeding, ending, Finishing, endingOf, finishing, Replayed, fedPieces, printedInPieces, joinedPieces}
 use Rattle.replaying.proofs.Chunks.{fed-apart}
 use Rattle.replaying.proofs.Short.{ending-short}
 use Rattle.replaying.proofs.InPieces.{pausedOf, replay-fit, piece-held, in-pieces}
@@ -88,3 +91,61 @@ script-printed start last pieces printed e from chain promise =
     ap (λ (l : List ℕ). printed ++ l) (finished-is last e promise)
     ∙ ap (λ (k : Replayed). k .printed ++ ending (k .replay)) (fed ∙ ap (λ (k : Replaying). fedPieces k pieces) nothing-fed)
     ∙ in-pieces pieces
+
+-- and the premise can be met: after any bytes, any pieces can be fed so
+pub record Feedable (r : Replaying) (pieces : List (List ℕ)) : Type 0 where
+  pub last : Replaying
+  pub printed : List ℕ
+  pub chain : Chain r pieces last printed
+
+module _ (done piece : List ℕ) where
+  abbrev then : Replay
+  then = fedAll (shown (pausedOf (fedAll fresh done))) piece
+
+  -- an output that has room for the piece and for what it prints, and the answer of such a call
+  abbrev wide : List ℕ
+  wide = replicate (20 * length piece + length (then .printed)) 0
+
+  abbrev answer : Fed
+  answer = record { taken = Bytes (length piece) (length (then .printed)); replay = pausedOf then }
+
+  wide-length : length wide ≡ 20 * length piece + length (then .printed)
+  wide-length = length-replicate {A = ℕ} (20 * length piece + length (then .printed)) 0
+
+  wide-room : length piece ≤ length wide / 20
+  wide-room = omega (arith, wide-length, div-add-mod (length wide) 20, mod-lt (length wide) {m = 20} (omega arith))
+
+  answered : fedOf answer (sets wide 0 (then .printed)) ≡ feeding (pausedOf (fedAll fresh done)) piece wide
+  unfolding fedOf accepted feeding partOf takenNumber takenValues
+  answered = sym (
+      cond-so _ _ (replay-fit done)
+      ∙ ap (λ (l : List ℕ). accepted (fedAll (shown (pausedOf (fedAll fresh done))) l) (length l) wide) (take-all (length wide / 20) piece wide-room)
+      )
+
+  answer-fits : printedBy answer ≤ length wide
+  unfolding printedBy takenValues
+  answer-fits = omega (arith, wide-length)
+
+pub feedable : (pieces : List (List ℕ)) (done : List ℕ) → Feedable (pausedOf (fedAll fresh done)) pieces
+feedable [] done = record { last = pausedOf (fedAll fresh done); printed = []; chain = none }
+feedable (piece ∷ pieces) done =
+    let output′ = sets (wide done piece) 0 (then done piece .printed) in
+    let rest = feedable pieces (done ++ piece) in
+    let same = held-then done piece (wide done piece) output′ (answer done piece) (wide-room done piece) (answered done piece) in
+    record {
+      last = rest .last;
+      printed = take (printedBy (answer done piece)) output′ ++ rest .printed;
+      chain = more piece (wide done piece) output′ (answer done piece) (wide-room done piece) (answered done piece) (answer-fits done piece)
+          (subst (λ (r : Replaying). Chain r pieces (rest .last) (rest .printed)) (sym same) (rest .chain));
+    }
+
+-- so can that of the end: a replay that can go on, as every one that is fed, has an answer of `finish`
+pub finishable : (done : List ℕ) →
+    let r : Replaying = pausedOf (fedAll fresh done) in
+    endingOf (record { answer = Value (length (ending r)); bytes = sets (replicate 160 0) 0 (ending r) }) ≡ finishing r
+unfolding endingOf finishing answerNumber answerValues
+finishable done = λ i. record {
+  number = sym (cond-so 0 (numberOf NotSound) (replay-fit done)) i;
+  values = length (ending (pausedOf (fedAll fresh done))) ∷ [];
+  bytes = sets (replicate 160 0) 0 (ending (pausedOf (fedAll fresh done)));
+}
