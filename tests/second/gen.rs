@@ -49,11 +49,24 @@ impl Dice {
         choices[self.below(choices.len() as u64) as usize].clone()
     }
 
+    pub fn shuffled(&mut self, choices: impl Iterator<Item = u64>) -> Vec<u64> {
+        let mut keyed: Vec<(u64, u64)> = choices.map(|choice| (self.roll(), choice)).collect();
+        keyed.sort();
+        keyed.into_iter().map(|(_, choice)| choice).collect()
+    }
+
     /// A number of any size, small ones as likely as large ones.
     pub fn any_size(&mut self, most_bits: u64) -> u64 {
         let bits = self.below(most_bits) + 1;
         self.roll() >> (64 - bits)
     }
+}
+
+/// The shortest and the longest wait of every bucket, rising.
+pub fn bucket_ends() -> Vec<u64> {
+    let mut ends: Vec<u64> = (0..32).flat_map(|k| [(1 << k) - 1, 1 << k]).chain([TOP]).collect();
+    ends.dedup();
+    ends
 }
 
 /// Joins lines to a script; now and then the end is ragged.
@@ -125,6 +138,14 @@ impl Board {
         Board::new(dice, n, c, b)
     }
 
+    /// A board with a source for every end of a bucket.
+    pub fn of_bucket_ends(dice: &mut Dice) -> Board {
+        let least = bucket_ends().len() as u64;
+        let n = least + dice.below(LAST_SOURCE + 1 - least);
+        let (c, b) = (dice.below(MOST_CONTEXTS) + 1, dice.below(MOST_BITS) + 1);
+        Board::new(dice, n, c, b)
+    }
+
     pub fn first_line(&self) -> String {
         format!("P {} {} {} {}", self.n, self.c, self.b, self.kinds)
     }
@@ -151,6 +172,24 @@ impl Board {
                 lines.push(write_at(enables_offset(context, word), value));
             }
         }
+        lines
+    }
+
+    /// Every source waits until the clock's end, one for each end of a bucket and the rest for any time; then all are
+    /// claimed.
+    pub fn waits(&self, dice: &mut Dice) -> Vec<String> {
+        let most = (1 << self.b) - 1;
+        let mut lines: Vec<String> = (1..=self.n).map(|id| write_at(4 * id, dice.below(most) + 1)).collect();
+        lines.extend((0..=self.n / 32).map(|word| write_at(enables_offset(0, word), TOP)));
+        let mut waits = bucket_ends();
+        waits.resize_with(self.n as usize, || dice.any_size(32));
+        waits.sort_by(|one, other| other.cmp(one));
+        let mut clock = 0;
+        for (id, wait) in dice.shuffled(1..=self.n).into_iter().zip(waits) {
+            lines.extend([format!("T {}", TOP - wait - clock), format!("L {id} 1")]);
+            clock = TOP - wait;
+        }
+        lines.extend((0..self.n).map(|_| read_at(claim_offset(0))));
         lines
     }
 

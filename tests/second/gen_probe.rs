@@ -13,8 +13,9 @@ use crate::spoil;
 
 const PER_MILLES: [u64; 12] = [0, 1, 2, 499, 500, 501, 990, 991, 999, 1000, 1001, TOP];
 
-const STYLES: [fn(&mut Scene, u64); 9] = [
+const STYLES: [fn(&mut Scene, u64); 10] = [
     traffic_and_reports,
+    waits_of_every_bucket,
     reports_on_set_buckets,
     end_of_steps,
     end_of_clock,
@@ -178,6 +179,18 @@ fn traffic_and_reports(scene: &mut Scene, turn: u64) {
             scene.say("V");
         }
     }
+}
+
+/// Claims into every bucket, at both of its ends.
+fn waits_of_every_bucket(scene: &mut Scene, _: u64) {
+    scene.board = Board::of_bucket_ends(&mut scene.dice);
+    scene.say(scene.board.first_line());
+    for line in scene.board.waits(&mut scene.dice) {
+        scene.say(line);
+    }
+    scene.say("V");
+    scene.reports();
+    scene.traffic(20);
 }
 
 /// Sound states whose buckets were set by hand, some of them huge; reports at

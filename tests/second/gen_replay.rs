@@ -5,7 +5,7 @@ use crate::gen::{Board, Dice, TOP, claim_offset, finish, read_at, write_at};
 use crate::limits::{MOST_BITS, MOST_EXTRA};
 use crate::spoil;
 
-const STYLES: [fn(&mut Dice, u64) -> Lines; 10] = [
+const STYLES: [fn(&mut Dice, u64) -> Lines; 11] = [
     ordinary,
     storm,
     edge_shapes,
@@ -15,6 +15,7 @@ const STYLES: [fn(&mut Dice, u64) -> Lines; 10] = [
     unreadable,
     beginnings,
     strange_registers,
+    waits_of_every_bucket,
     mixture,
 ];
 
@@ -188,6 +189,14 @@ fn strange_registers(dice: &mut Dice, _: u64) -> Lines {
         };
         add(&mut lines, vec![line]);
     }
+    lines
+}
+
+fn waits_of_every_bucket(dice: &mut Dice, _: u64) -> Lines {
+    let board = Board::of_bucket_ends(dice);
+    let mut lines = vec![board.first_line().into_bytes()];
+    add(&mut lines, board.waits(dice));
+    add_traffic(dice, &board, &mut lines, 20);
     lines
 }
 

@@ -22,7 +22,7 @@ pub struct Moment<'a> {
 /// A name, and whether the moment shows it.
 pub type Sight = (&'static str, fn(&Moment) -> bool);
 
-pub const SIGHTS: [Sight; 41] = [
+pub const SIGHTS: [Sight; 39] = [
     ("shape: N 1", |m| m.makes() && m.after.source_count == 1),
     ("shape: N 31", |m| m.makes() && m.after.source_count == 31),
     ("shape: N 32", |m| m.makes() && m.after.source_count == 32),
@@ -38,8 +38,6 @@ pub const SIGHTS: [Sight; 41] = [
     ("claim: a tie", |m| m.takes(|c, id| m.rivals(c, id) > 1)),
     ("claim: at the threshold or below", |m| m.takes(|c, id| m.source(id).priority <= m.threshold(c))),
     ("claim: of the last source", |m| m.takes(|_, id| id == m.before.source_count)),
-    ("claim: waited 0", |m| m.waited() == Some(0)),
-    ("claim: waited 2147483648 or more", |m| m.waited() >= Some(1 << 31)),
     ("completion: by the claimer", |m| m.completes(|c, id| m.claimers.get(&id) == Some(&c))),
     ("completion: by another context", |m| m.completes(|c, id| m.claimers.get(&id).is_some_and(|by| *by != c))),
     ("completion: pending again, level", |m| m.completes(|_, id| m.rises() && m.is(id, Kind::Level))),
@@ -71,6 +69,11 @@ pub const SIGHTS: [Sight; 41] = [
         m.after.sources.iter().map(|s| s.open_age(m.after.clock)).sum::<u64>() > TOP
     }),
 ];
+
+/// The name of a claim that waited so long.
+pub fn waited(ticks: u64) -> String {
+    format!("claim: waited {ticks}")
+}
 
 impl Moment<'_> {
     pub fn accepted(&self) -> bool {
@@ -151,7 +154,7 @@ impl Moment<'_> {
         })
     }
 
-    fn waited(&self) -> Option<u64> {
+    pub fn waited(&self) -> Option<u64> {
         self.booked().map(|(_, wait)| wait)
     }
 

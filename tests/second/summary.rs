@@ -4,7 +4,8 @@
 use crate::Language;
 use crate::field::FIELDS;
 use crate::model::Controller;
-use crate::sights::{Moment, SIGHTS};
+use crate::gen::bucket_ends;
+use crate::sights::{self, Moment, SIGHTS};
 use crate::sights_lines::{ENDS, REASONS, reason};
 use crate::sights_probe::{self, Watch};
 use crate::{sound, words};
@@ -50,7 +51,7 @@ fn of_probe() -> Vec<String> {
 }
 
 fn sights() -> impl Iterator<Item = String> {
-    SIGHTS.iter().map(|(name, _)| name.to_string())
+    SIGHTS.iter().map(|(name, _)| name.to_string()).chain(bucket_ends().into_iter().map(sights::waited))
 }
 
 fn refused(number: u64) -> String {
@@ -118,6 +119,8 @@ fn still_sound(moment: &Moment) -> Result<(), String> {
 fn count(moment: &Moment, watch: &mut Watch, tally: &mut Tally) {
     moment.answer.lines().for_each(|line| tally.see(sort_of(line)));
     SIGHTS.iter().filter(|(_, shows)| shows(moment)).for_each(|(name, _)| tally.see(*name));
+    let waited = moment.waited().filter(|ticks| bucket_ends().contains(ticks));
+    waited.into_iter().for_each(|ticks| tally.see(sights::waited(ticks)));
     if moment.answer == "refused 11\n" {
         reason(moment.line).into_iter().for_each(|name| tally.see(unreadable(name)));
     }

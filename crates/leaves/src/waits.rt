@@ -1,6 +1,5 @@
 // Waits, open ages and their buckets. Leaves: numbers and the table of upper ends.
 use limits::BUCKET_ROOM;
-use limits::LAST_BUCKET;
 ghost use mathlib.Core.Path.{_≡_};
 ghost use Prim.Native.Nat.{ℕ, _<_};
 ghost use Rattle.limits.specs.Limits.{bucketRoom};
@@ -52,18 +51,11 @@ pub fn upper_end(k: usize) -> u32
     UPPER_ENDS[k]
 }
 
-// The bucket of a wait: the lowest whose upper end the wait does not pass.
+// The bucket of a wait: the width 32 less the wait's leading zeros, which is the machine's own count and no walk over the table.
 pub fn bucket_of(wait: u32) -> usize
     ensures { λ r. ⌜ (r ≡ bucketOf wait) × (r < bucketRoom) ⌝ }
 {
-    let mut k: usize = 0;
-    while k < LAST_BUCKET {
-        if wait <= upper_end(k) {
-            return k;
-        }
-        k += 1;
-    }
-    LAST_BUCKET
+    (32 - u32::leading_zeros(wait)) as usize
 }
 
 // The ticks from the step that set the pending bit to now, where it is set.

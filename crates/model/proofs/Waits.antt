@@ -1,11 +1,13 @@
 -- The table of upper ends follows its rule, and a wait belongs to exactly one bucket.
 -- Assumes nothing.
-use mathlib.Core.Path.{_≡_, refl, sym, subst}
+use mathlib.Core.Path.{_≡_, _∙_, refl, sym, subst}
 use mathlib.Core.Bool.{Bool, So}
 use mathlib.Core.Logic.{_⊎_, ⊎-elim, _↔_}
-use Prim.Native.Nat.{ℕ, zero, suc, _-_, _^_, _≤_, _<_}
+use Prim.Native.Nat.{ℕ, zero, suc, _+_, _-_, _*_, _^_, _≤_, _<_}
+use native.Mathlib.Nat.{pow-suc}
 use native.Mathlib.Omega.{arith}
 use lib.Dec.{leb, ltb, eqb}
+use lib.Count.{leadingZeros, leading-length}
 use lib.Pow.{pow-pos, pow-mono}
 use borrow.Author.Tests.{leb-true, le-leb, ltb-true, ltb-false, eqb-true}
 use Rattle.limits.specs.Limits.{bucketRoom, lastBucket}
@@ -75,13 +77,19 @@ module _ (w : ℕ) where
   pub bucket-holds : w ≤ 4294967295 → Holds (bucketOf w) w
   bucket-holds most = bucket-iff most (bucketOf w) .0 refl
 
-  -- what a search of the table finds: the first upper end that is not passed
-  pub bucket-found : (k : ℕ) → k < bucketRoom → ((j : ℕ) → j < k → upperEnd j < w) → w ≤ upperEnd k → k ≡ bucketOf w
-  unfolding bucketOf test
-  bucket-found k h passed here = first-once test bucketRoom
-      (record {
-        within = omega arith;
-        before = λ j l t. absurd (omega (arith, passed j l, leb-true w (upperEnd j) t));
-        found = λ _. le-leb w (upperEnd k) here;
-      })
-      (first-is test bucketRoom)
+  -- a number of m bits, the highest of them set, is not below the lower end of bucket m
+  highest-set : (m : ℕ) → 2 ^ m ≤ 2 * w + 1 → lowerEnd m ≤ w
+  unfolding lowerEnd
+  highest-set zero h = omega arith
+  highest-set (suc k) h = omega (arith, pow-suc 2 k)
+
+  -- over the width: a wait of so many bits belongs to the bucket whose number is the width less the wait's leading zeros
+  pub leading-bucket : (width : ℕ) → width ≤ lastBucket → w < 2 ^ width →
+      (width - leadingZeros width w ≡ bucketOf w) × (width - leadingZeros width w < bucketRoom)
+  leading-bucket width most fits =
+      let bits = leading-length width w fits in
+      let m = bits .0 in
+      let held : Holds m w = record { exists = omega (arith, bits .1); lower = highest-set m (bits .3); upper = omega (arith, bits .2) } in
+      let within : w ≤ 4294967295 = omega (arith, pow-mono {i = width} {j = lastBucket} most) in
+      let left : width - leadingZeros width w ≡ m = omega (arith, bits .1) in
+      (left ∙ sym (bucket-iff within m .1 held), omega (arith, bits .1))
