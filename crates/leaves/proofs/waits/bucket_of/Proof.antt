@@ -1,5 +1,6 @@
 -- `waits::bucket_of` meets its contract: the law of leading zeros at a width of 32 bits.
 -- Assumes nothing.
+use native.Mathlib.Nat.{le-trans}
 use native.Mathlib.Omega.{arith}
 use lib.Count.{leading-le}
 use Rattle.model.proofs.Waits.{leading-bucket}
@@ -8,7 +9,7 @@ use Rattle.leaves.proofs.waits.bucket_of.Tie as tie
 
 -- the count is at most the width
 sub-result : tie.Need-sub-result
-sub-result c = omega (arith, leading-le 32 (c .args .wait))
+sub-result c = le-trans (leading-le 32 _) (omega arith)
 
 cast-result : tie.Need-cast-result
 cast-result c = omega arith
