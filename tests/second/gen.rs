@@ -175,8 +175,8 @@ impl Board {
         lines
     }
 
-    /// Every source waits until the clock's end, one for each end of a bucket and the rest for any time; then all are
-    /// claimed.
+    /// Every source waits until the clock's end, one for each end of a bucket
+    /// and the rest for any time; then all are claimed.
     pub fn waits(&self, dice: &mut Dice) -> Vec<String> {
         let most = (1 << self.b) - 1;
         let mut lines: Vec<String> = (1..=self.n).map(|id| write_at(4 * id, dice.below(most) + 1)).collect();

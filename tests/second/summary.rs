@@ -3,8 +3,8 @@
 
 use crate::Language;
 use crate::field::FIELDS;
-use crate::model::Controller;
 use crate::gen::bucket_ends;
+use crate::model::Controller;
 use crate::sights::{self, Moment, SIGHTS};
 use crate::sights_lines::{ENDS, REASONS, reason};
 use crate::sights_probe::{self, Watch};
