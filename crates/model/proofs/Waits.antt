@@ -1,4 +1,4 @@
--- The table of upper ends follows its rule, and a wait belongs to exactly one bucket.
+-- The table of upper ends follows its rule, and a wait belongs to exactly one bucket, whose number is a width less the leading zeros in it.
 -- Assumes nothing.
 use mathlib.Core.Path.{_≡_, _∙_, refl, sym, subst}
 use mathlib.Core.Bool.{Bool, So}
