@@ -14,8 +14,7 @@ import re
 import sys
 
 NAME = r"[^\W\d][\w'₀-₉-]*"
-DECLARED = re.compile(r"^(?:(?:abbrev|unfoldable|pub|data|record) )*(" + NAME + r")(?: [({].*)? : ")
-FIELD = re.compile(r"^  (?:pub )?(" + NAME + r") : ")
+WORDS = {"abbrev", "unfoldable", "pub", "data", "record", "module", "let", "use"}
 
 # an old name whose plain spelling another name has: what it is called
 KEPT_APART = {
@@ -52,10 +51,17 @@ def declared():
     for path in sorted(files):
         with open(path, encoding="utf-8") as f:
             for line in f:
-                m = DECLARED.match(line) or FIELD.match(line)
-                if m:
-                    names.setdefault(m.group(1), []).append(path)
+                for name in heads(line):
+                    names.setdefault(name, []).append(path)
     return names
+
+
+def heads(line):
+    """The names that a line declares: `pub one two : TYPE`, `pub record One (s : State) : Type 0`."""
+    head = re.split(r" :(?: |$)| [({]", line.strip())[0]
+    words = [w for w in head.split() if w not in WORDS]
+    plain_words = all(re.fullmatch(NAME, w) for w in words)
+    return words if re.search(r" :(?: |$)", line.rstrip()) and plain_words and "let" not in head.split() else []
 
 
 def spelling(names):
@@ -69,6 +75,7 @@ def main():
         for old in sorted(new):
             print(old, new[old])
         return
+    # In the proof of a function `w.n-is` is a name that Rattle makes.
     word = re.compile(r"(?<![\w'₀-₉-])(" + "|".join(sorted(map(re.escape, new), key=len, reverse=True)) + r")(?![\w'₀-₉-])")
     for path in sorted(glob.glob("crates/**/*.antt", recursive=True) + glob.glob("crates/**/*.rt", recursive=True)):
         with open(path, encoding="utf-8") as f:

@@ -9,7 +9,7 @@ ghost use Rattle.commands.specs.Leaves.{letter_of};
 use crate::forms::{advance_of, line_of, make_of, notify_of, read_of, write_of};
 
 // A command, with the numbers that its line gives. Of `Make` the last is where the letters of the kinds begin.
-#[derive(Drop)]
+#[derive(Clone, Copy)]
 pub enum Command {
     Make(u32, u32, u32, usize),
     Line(u32, bool),
@@ -21,7 +21,7 @@ pub enum Command {
 }
 
 // What a script's first line asks for: a board, with N, C, b and the place where the letters of the kinds begin; or it is unreadable.
-#[derive(Drop)]
+#[derive(Clone, Copy)]
 pub enum Opening {
     Board(u32, u32, u32, usize),
     Unreadable,

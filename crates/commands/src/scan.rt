@@ -4,7 +4,7 @@ ghost use Rattle.commands.specs.Grammar.{is_digit, is_kind, is_kinds};
 ghost use Rattle.commands.specs.Leaves.{number_at, offset_at, ends_with, digits_from, hex_worth};
 
 // The value of a word and the place of the byte that ends it; or nothing, where the word is not of the form that is asked for.
-#[derive(Drop)]
+#[derive(Clone, Copy)]
 pub(crate) enum Value {
     Is(u32, usize),
     Nothing,

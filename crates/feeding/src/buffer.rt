@@ -8,7 +8,7 @@ ghost use Rattle.feeding.specs.Engine.{stand_in};
 use limits::HELD_ROOM;
 
 // The bytes, and how many of them there are.
-#[derive(Drop)]
+#[derive(Clone, Copy)]
 pub(crate) struct Buffer {
     pub(crate) bytes: [u8; HELD_ROOM],
     pub(crate) count: usize,

@@ -10,7 +10,7 @@ use model::State;
 use replaying::{Place, Replaying};
 
 // The replay after a piece, and the place in the output after what it printed.
-#[derive(Drop)]
+#[derive(Clone, Copy)]
 pub(crate) struct Progress {
     pub(crate) replay: Replaying,
     pub(crate) written: usize,

@@ -67,14 +67,14 @@ differs true true = false
 differs true false = true
 differs false b = b
 
-pub bit_and : (a b j : ℕ) → bit (bit_and a b) j ≡ (bit a j && bit b j)
-bit_and = digitwise bit_and ◌&&◌ and_shr and_mod (digits (λ x y. eqb (bit_and x y) 1 ≡ (eqb x 1 && eqb y 1)) refl refl refl refl)
+pub bit-bit_and : (a b j : ℕ) → bit (bit_and a b) j ≡ (bit a j && bit b j)
+bit-bit_and = digitwise bit_and ◌&&◌ and_shr and_mod (digits (λ x y. eqb (bit_and x y) 1 ≡ (eqb x 1 && eqb y 1)) refl refl refl refl)
 
-pub bit_or : (a b j : ℕ) → bit (bit_or a b) j ≡ (bit a j || bit b j)
-bit_or = digitwise bit_or ◌||◌ or_shr or_mod (digits (λ x y. eqb (bit_or x y) 1 ≡ (eqb x 1 || eqb y 1)) refl refl refl refl)
+pub bit-bit_or : (a b j : ℕ) → bit (bit_or a b) j ≡ (bit a j || bit b j)
+bit-bit_or = digitwise bit_or ◌||◌ or_shr or_mod (digits (λ x y. eqb (bit_or x y) 1 ≡ (eqb x 1 || eqb y 1)) refl refl refl refl)
 
-pub bit_xor : (a b j : ℕ) → bit (bit_xor a b) j ≡ differs (bit a j) (bit b j)
-bit_xor = digitwise bit_xor differs xor_shr xor_mod (digits (λ x y. eqb (bit_xor x y) 1 ≡ differs (eqb x 1) (eqb y 1)) refl refl refl refl)
+pub bit-bit_xor : (a b j : ℕ) → bit (bit_xor a b) j ≡ differs (bit a j) (bit b j)
+bit-bit_xor = digitwise bit_xor differs xor_shr xor_mod (digits (λ x y. eqb (bit_xor x y) 1 ≡ differs (eqb x 1) (eqb y 1)) refl refl refl refl)
 
 -- a power of two has one bit
 pub bit_pow : (k j : ℕ) → bit (2 ^ k) j ≡ eqb j k
@@ -92,7 +92,7 @@ bit_pow (suc k) (suc j) = bit_half (2 ^ suc k) j ∙ ap (λ (x : ℕ). bit x j) 
 -- a bit set, and a bit cleared: neither asks anything of the old bit
 
 pub bit_set : (v k j : ℕ) → bit (bit_or v (2 ^ k)) j ≡ cond (eqb j k) true (bit v j)
-bit_set v k j = bit_or v (2 ^ k) j ∙ ap (λ (b : Bool). bit v j || b) (bit_pow k j) ∙ by (bit v j) (eqb j k)
+bit_set v k j = bit-bit_or v (2 ^ k) j ∙ ap (λ (b : Bool). bit v j || b) (bit_pow k j) ∙ by (bit v j) (eqb j k)
   where
     by : (a b : Bool) → (a || b) ≡ cond b true a
     by true true = refl
@@ -102,7 +102,7 @@ bit_set v k j = bit_or v (2 ^ k) j ∙ ap (λ (b : Bool). bit v j || b) (bit_pow
 
 pub bit_cleared : (v k j : ℕ) → bit (bit_xor (bit_or v (2 ^ k)) (2 ^ k)) j ≡ cond (eqb j k) false (bit v j)
 bit_cleared v k j =
-    bit_xor (bit_or v (2 ^ k)) (2 ^ k) j ∙ ap₂ differs (bit_set v k j) (bit_pow k j) ∙ by (bit v j) (eqb j k)
+    bit-bit_xor (bit_or v (2 ^ k)) (2 ^ k) j ∙ ap₂ differs (bit_set v k j) (bit_pow k j) ∙ by (bit v j) (eqb j k)
   where
     by : (a b : Bool) → differs (cond b true a) b ≡ cond b false a
     by true true = refl

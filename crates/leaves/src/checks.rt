@@ -6,7 +6,7 @@ ghost use Rattle.leaves.specs.Checks.{check_number, line_grounds, advance_ground
 use model::Refusal;
 
 // What a check finds.
-#[derive(Drop)]
+#[derive(Clone, Copy)]
 pub enum Check {
     Passed,
     Refused(Refusal),

@@ -3,7 +3,7 @@ use limits::{BUCKET_ROOM, CONTEXT_ROOM, ENABLE_ROOM, SOURCE_ROOM};
 
 // What the board contains: N sources, C contexts, b priority bits, and a kind byte for each source
 // (0 level, 1 edge that drops extra edges, 2 edge that counts them). Number 0 is no source and keeps zero.
-#[derive(Drop)]
+#[derive(Clone, Copy)]
 pub struct Shape {
     pub sources: u32,
     pub contexts: u32,
@@ -12,7 +12,7 @@ pub struct Shape {
 }
 
 // What software sets by writing: priorities by source, enables as words of 32 sources (context × WORD_ROOM + word), thresholds by context.
-#[derive(Drop)]
+#[derive(Clone, Copy)]
 pub struct Settings {
     pub priority: [u8; SOURCE_ROOM],
     pub enable: [u32; ENABLE_ROOM],
@@ -21,7 +21,7 @@ pub struct Settings {
 
 // The life of one source's request: its stage (0 idle, 1 pending, 2 in service), its line, the extra edges of a counting
 // source, and the clock when it became pending.
-#[derive(Drop)]
+#[derive(Clone, Copy)]
 pub struct Request {
     pub stage: u8,
     pub line: bool,
@@ -30,7 +30,7 @@ pub struct Request {
 }
 
 // The same for each source.
-#[derive(Drop)]
+#[derive(Clone, Copy)]
 pub struct Requests {
     pub stage: [u8; SOURCE_ROOM],
     pub line: [bool; SOURCE_ROOM],
@@ -39,20 +39,20 @@ pub struct Requests {
 }
 
 // The finished waits of each source: how many claims, and the ticks that those waited.
-#[derive(Drop)]
+#[derive(Clone, Copy)]
 pub struct Counts {
     pub claims: [u32; SOURCE_ROOM],
     pub waited: [u32; SOURCE_ROOM],
 }
 
 // The finished waits of the whole board by length: bucket 0 holds waits of 0, bucket k those from 2^(k-1) to 2^k - 1.
-#[derive(Drop)]
+#[derive(Clone, Copy)]
 pub struct Buckets {
     pub claims: [u32; BUCKET_ROOM],
     pub ticks: [u64; BUCKET_ROOM],
 }
 
-#[derive(Drop)]
+#[derive(Clone, Copy)]
 pub struct State {
     pub shape: Shape,
     pub clock: u32,
@@ -64,7 +64,7 @@ pub struct State {
 }
 
 // Why a call is refused, in the order of the table's numbers 1 to 11.
-#[derive(Drop)]
+#[derive(Clone, Copy)]
 pub enum Refusal {
     BadShape,
     NotSound,
@@ -80,7 +80,7 @@ pub enum Refusal {
 }
 
 // A register of the map, by the number of its source, word or context.
-#[derive(Drop)]
+#[derive(Clone, Copy)]
 pub enum Register {
     Priority(usize),
     Pending(usize),
@@ -91,40 +91,40 @@ pub enum Register {
 }
 
 // What making, a step, a notification or a percentile answers.
-#[derive(Drop)]
+#[derive(Clone, Copy)]
 pub enum Answer {
     Value(u32),
     Refused(Refusal),
 }
 
 // What the mean report answers: ticks waited, and claims.
-#[derive(Drop)]
+#[derive(Clone, Copy)]
 pub enum Mean {
     Of(u64, u32),
     Refused(Refusal),
 }
 
 // What the totals answer: clock, claims, ticks waited by claims, and ages still open.
-#[derive(Drop)]
+#[derive(Clone, Copy)]
 pub enum Totals {
     Of(u32, u32, u64, u64),
     Refused(Refusal),
 }
 
 // An answer, and the state that goes with it.
-#[derive(Drop)]
+#[derive(Clone, Copy)]
 pub struct Answered {
     pub answer: Answer,
     pub state: State,
 }
 
-#[derive(Drop)]
+#[derive(Clone, Copy)]
 pub struct Averaged {
     pub mean: Mean,
     pub state: State,
 }
 
-#[derive(Drop)]
+#[derive(Clone, Copy)]
 pub struct Totalled {
     pub totals: Totals,
     pub state: State,

@@ -20,7 +20,7 @@ use steps::access::{read, write};
 use steps::requests::set_line;
 
 // What a command does beside the arrays: the clock and the step count after it, and what it prints.
-#[derive(Drop)]
+#[derive(Clone, Copy)]
 pub struct Reply {
     pub clock: u32,
     pub steps: u32,
@@ -261,7 +261,7 @@ pub fn obey(
     bucket_ticks: &mut [u64; BUCKET_ROOM],
 ) -> Reply
     ghost s: { State }
-    requires bucket_ticks_value { state_of n m b kind.now clock steps
+    requires arrays_of_s { state_of n m b kind.now clock steps
         (settings_of priority.old enable.old threshold.old) (requests_of stage.old line.old extra.old start.old)
         (counts_of claims.old waited.old) (buckets_of bucket_claims.old bucket_ticks.old) ≡ s }
     requires sound { Sound s }

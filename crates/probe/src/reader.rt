@@ -6,7 +6,7 @@ use probing::out::Out;
 use probing::text::{Text, first};
 use probing::words::{next_of, same};
 
-#[derive(Drop)]
+#[derive(Clone, Copy)]
 pub(crate) struct Reader {
     state: State,
     line: Text,

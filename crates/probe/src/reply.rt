@@ -3,7 +3,7 @@ use model::{Answer, Answered, Mean, Refusal, State, Totals};
 use probing::text::Text;
 
 // What is printed, and the state at hand afterwards.
-#[derive(Drop)]
+#[derive(Clone, Copy)]
 pub(crate) struct Reply {
     pub(crate) text: Text,
     pub(crate) state: State,

@@ -5,7 +5,7 @@ ghost use Rattle.limits.specs.Limits.{source_room, enable_room};
 use crate::text::{Text, first};
 use crate::words::{LAST_32, same};
 
-#[derive(Drop)]
+#[derive(Clone, Copy)]
 pub enum Field {
     Sources,
     Contexts,
@@ -26,7 +26,7 @@ pub enum Field {
     BucketTicks,
 }
 
-#[derive(Drop)]
+#[derive(Clone, Copy)]
 pub enum Named {
     Is(Field),
     Nothing,

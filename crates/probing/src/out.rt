@@ -7,7 +7,7 @@ const ROOM: usize = 4096;
 // Above this the longest text may not fit.
 const FULL: usize = ROOM - limits::HELD_ROOM;
 
-#[derive(Drop)]
+#[derive(Clone, Copy)]
 pub struct Out {
     bytes: [u8; ROOM],
     used: usize,

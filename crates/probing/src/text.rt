@@ -1,6 +1,6 @@
 // Bytes by value, as many as are held of a line: a line that is read, a line to write, a list of kind bytes.
 
-#[derive(Drop)]
+#[derive(Clone, Copy)]
 pub struct Text {
     pub bytes: [u8; limits::HELD_ROOM],
     pub length: usize,

@@ -7,7 +7,7 @@ use crate::widths::wide;
 pub const LAST_32: u64 = 4294967295;
 
 // A number and the place past the byte that ends its word; or nothing, where there is no such number.
-#[derive(Drop)]
+#[derive(Clone, Copy)]
 pub enum Value {
     Is(u64, usize),
     Nothing,

@@ -5,7 +5,7 @@ use model::Answer;
 use replaying::{Place, Replaying, Taken};
 
 // The replay after a piece, and whether what it printed could be written.
-#[derive(Drop)]
+#[derive(Clone, Copy)]
 struct Stepped {
     replay: Replaying,
     is_written: bool,

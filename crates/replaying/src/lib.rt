@@ -9,7 +9,7 @@ use model::{Answer, Refusal, State};
 pub use text::{put_said, put_totals};
 
 // What a line of a script prints: nothing; a letter and a value; or that it is refused, and the number.
-#[derive(Drop)]
+#[derive(Clone, Copy)]
 pub enum Said {
     Nothing,
     Value(u8, u32),
@@ -17,7 +17,7 @@ pub enum Said {
 }
 
 // Where a replay stands: before its first line, on a board, or ended by its first line.
-#[derive(Drop)]
+#[derive(Clone, Copy)]
 pub enum Place {
     Before,
     On,
@@ -26,7 +26,7 @@ pub enum Place {
 
 // A replay between two pieces of its script: where it stands, the board, and the line that has begun, of which the first bytes tell
 // enough, and how many of them are held. Off a board the state is zero throughout; the bytes after those that are held are zero.
-#[derive(Drop)]
+#[derive(Clone, Copy)]
 pub struct Replaying {
     pub place: Place,
     pub state: State,
@@ -35,20 +35,20 @@ pub struct Replaying {
 }
 
 // What became of a piece of a script: how many bytes of it were taken and how many were printed; or a refusal.
-#[derive(Drop)]
+#[derive(Clone, Copy)]
 pub enum Taken {
     Bytes(usize, usize),
     Refused(Refusal),
 }
 
-#[derive(Drop)]
+#[derive(Clone, Copy)]
 pub struct Fed {
     pub taken: Taken,
     pub replay: Replaying,
 }
 
 // The end of a script: how many bytes it prints, or a refusal; and the bytes, zeros after them.
-#[derive(Drop)]
+#[derive(Clone, Copy)]
 pub struct Ending {
     pub answer: Answer,
     pub bytes: [u8; 160],

@@ -8,41 +8,41 @@ use Rattle.commands.specs.Leaves.{letter_of}
 use Rattle.commands.proofs.letter_of.Statement.{statement}
 use Rattle.commands.proofs.letter_of.Tie as tie
 
-returns : tie.Need-returns
+returns-then-line-gt-LINE_ROOM : tie.Need-returns-then-line-gt-LINE_ROOM
 unfolding letter_of
-returns c = simp (lt-ltb line_room (length c.before.args.line.now) (omega arith))
+returns-then-line-gt-LINE_ROOM c = simp (lt-ltb line_room (length c.args.line.now) (omega arith))
 
-returns-2 : tie.Need-returns-2
+returns-then-line-lt2 : tie.Need-returns-then-line-lt2
 unfolding letter_of
-returns-2 c =
-    let l = c.before.before.args.line.now in
+returns-then-line-lt2 c =
+    let l = c.args.line.now in
     simp (le-ltb line_room (length l) (omega arith), lt-ltb (length l) 2 (omega arith))
 
-shared-slice-read-space : tie.Need-shared-slice-read-space
-shared-slice-read-space c = omega arith
+bounds-line-1 : tie.Need-bounds-line-1
+bounds-line-1 c = omega arith
 
-returns-3 : tie.Need-returns-3
+returns-then-space-ne32 : tie.Need-returns-then-space-ne32
 unfolding letter_of
-returns-3 c =
-    let l = c.before.before.before.before.args.line.now in
-    simp (le-ltb line_room (length l) (omega arith), le-ltb (length l) 2 (omega arith), ne_eqb _ _ c.if3.true)
+returns-then-space-ne32 c =
+    let l = c.args.line.now in
+    simp (le-ltb line_room (length l) (omega arith), le-ltb (length l) 2 (omega arith), ne_eqb _ _ c.if-space-ne32.true)
 
-shared-slice-read-result : tie.Need-shared-slice-read-result
-shared-slice-read-result c = omega arith
+bounds-line-0 : tie.Need-bounds-line-0
+bounds-line-0 c = omega arith
 
-returns-4 : tie.Need-returns-4
+returns : tie.Need-returns
 unfolding letter_of
-returns-4 c =
-    let l = c.before.before.before.before.before.args.line.now in
-    simp (le-ltb line_room (length l) (omega arith), le-ltb (length l) 2 (omega arith), eq-eqb _ _ c.before.if3.false)
+returns c =
+    let l = c.args.line.now in
+    simp (le-ltb line_room (length l) (omega arith), le-ltb (length l) 2 (omega arith), eq-eqb _ _ c.if-space-ne32.false)
 
-pub letter-of-spec : {M : Type 1} → statement M
-letter-of-spec =
+pub letter_of_spec : {M : Type 1} → statement M
+letter_of_spec =
     tie.close
     (tie.spec
-    returns
-    returns-2
-    shared-slice-read-space
-    returns-3
-    shared-slice-read-result
-    returns-4)
+    returns-then-line-gt-LINE_ROOM
+    returns-then-line-lt2
+    bounds-line-1
+    returns-then-space-ne32
+    bounds-line-0
+    returns)

@@ -24,15 +24,15 @@ others (Write off v) h = refl
 others (Notify n) h = refl
 others Unreadable h = refl
 
-enum-known-command : tie.Need-enum-known-command
-enum-known-command c = search rules
+enum_known-command : tie.Need-enum_known-command
+enum_known-command c = search rules
 
-returns : tie.Need-returns
+returns-in-Make : tie.Need-returns-in-Make
 unfolding opening_of
-returns c = sym (ap opening_of c.before.command.given.1)
+returns-in-Make c = sym (ap opening_of c.in-Make.is)
 
-returns-2 : tie.Need-returns-2
-returns-2 c = others c.before.args.command c.match.keys2
+returns-in_default : tie.Need-returns-in_default
+returns-in_default c = others c.args.command c.in_default.in_default-own.keys2
 
-pub opening-of-spec : {M : Type 1} → statement M
-opening-of-spec = tie.close (tie.spec enum-known-command returns returns-2)
+pub opening_of_spec : {M : Type 1} → statement M
+opening_of_spec = tie.close (tie.spec enum_known-command returns-in-Make returns-in_default)

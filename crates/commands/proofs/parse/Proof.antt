@@ -15,74 +15,74 @@ use Rattle.commands.proofs.parse.Statement.{statement}
 use Rattle.commands.proofs.parse.Tie as tie
 
 -- once the letter is known: the line, and what its letter asks for
-abbrev text : tie.After-letter-of → List ℕ
-text c = c.before.before.args.line.now
+abbrev text : tie.After-letter_of → List ℕ
+text c = c.args.line.now
 
-asks : (c : tie.After-letter-of) (x : ℕ) (f : ℕ → List (List ℕ) → Command) →
+asks : (c : tie.After-letter_of) (x : ℕ) (f : ℕ → List (List ℕ) → Command) →
     ((long : ℕ) (ws : List (List ℕ)) → of_words long ((x ∷ []) ∷ ws) ≡ f long ws) → eqb x 0 ≡ false → eqb x 32 ≡ false →
-    c.letter-of.result ≡ x → command_of (text c) ≡ f (length (text c)) (words (drop 2 (text c)))
-asks c x f form h k e = by_letter (text c) x f form h k (sym c.letter-of.ensures ∙ e)
+    c.letter_of.result ≡ x → command_of (text c) ≡ f (length (text c)) (words (drop 2 (text c)))
+asks c x f form h k e = by_letter (text c) x f form h k (sym c.letter_of.ensures ∙ e)
 
-letter-of-requires : tie.Need-letter-of-requires
-letter-of-requires c κs = search rules
+letter_of-requires : tie.Need-letter_of-requires
+letter_of-requires c κs = search rules
 
-line-of-requires : tie.Need-line-of-requires
-line-of-requires c κs = search rules
+line_of-requires : tie.Need-line_of-requires
+line_of-requires c κs = search rules
 
-advance-of-requires : tie.Need-advance-of-requires
-advance-of-requires c κs = search rules
+advance_of-requires : tie.Need-advance_of-requires
+advance_of-requires c κs = search rules
 
-read-of-requires : tie.Need-read-of-requires
-read-of-requires c κs = letter_long (text c.before) 82 refl (sym c.before.letter-of.ensures ∙ c.match.keys3)
+read_of-requires : tie.Need-read_of-requires
+read_of-requires c κs = letter_long (text c.before) 82 refl (sym c.letter_of.ensures ∙ c.in-82.is)
 
-write-of-requires : tie.Need-write-of-requires
-write-of-requires c κs = letter_long (text c.before) 87 refl (sym c.before.letter-of.ensures ∙ c.match.keys4)
+write_of-requires : tie.Need-write_of-requires
+write_of-requires c κs = letter_long (text c.before) 87 refl (sym c.letter_of.ensures ∙ c.in-87.is)
 
-notify-of-requires : tie.Need-notify-of-requires
-notify-of-requires c κs = search rules
+notify_of-requires : tie.Need-notify_of-requires
+notify_of-requires c κs = search rules
 
-make-of-requires : tie.Need-make-of-requires
-make-of-requires c κs = search rules
+make_of-requires : tie.Need-make_of-requires
+make_of-requires c κs = search rules
 
-returns : tie.Need-returns
-returns c = c.Line-of.ensures ∙ sym (asks c.before.before 76 (λ _. line_of) of_line refl refl c.before.match.keys1)
+returns-in-76 : tie.Need-returns-in-76
+returns-in-76 c = c.line_of.ensures ∙ sym (asks c.before.before 76 (λ _. line_of) of_line refl refl c.in-76.is)
 
-returns-2 : tie.Need-returns-2
-returns-2 c = c.advance-of.ensures ∙ sym (asks c.before.before 84 (λ _. advance_of) of_advance refl refl c.before.match.keys2)
+returns-in-84 : tie.Need-returns-in-84
+returns-in-84 c = c.advance_of.ensures ∙ sym (asks c.before.before 84 (λ _. advance_of) of_advance refl refl c.in-84.is)
 
-returns-3 : tie.Need-returns-3
-returns-3 c = c.Read-of.ensures ∙ sym (asks c.before.before 82 (λ _. read_of) of_read refl refl c.before.match.keys3)
+returns-in-82 : tie.Need-returns-in-82
+returns-in-82 c = c.read_of.ensures ∙ sym (asks c.before.before 82 (λ _. read_of) of_read refl refl c.in-82.is)
 
-returns-4 : tie.Need-returns-4
-returns-4 c = c.write-of.ensures ∙ sym (asks c.before.before 87 (λ _. write_of) of_write refl refl c.before.match.keys4)
+returns-in-87 : tie.Need-returns-in-87
+returns-in-87 c = c.write_of.ensures ∙ sym (asks c.before.before 87 (λ _. write_of) of_write refl refl c.in-87.is)
 
-returns-5 : tie.Need-returns-5
-returns-5 c = c.notify-of.ensures ∙ sym (asks c.before.before 78 (λ _. notify_of) of_notify refl refl c.before.match.keys5)
+returns-in-78 : tie.Need-returns-in-78
+returns-in-78 c = c.notify_of.ensures ∙ sym (asks c.before.before 78 (λ _. notify_of) of_notify refl refl c.in-78.is)
 
-returns-6 : tie.Need-returns-6
-returns-6 c = c.make-of.ensures ∙ sym (asks c.before.before 80 make_of of_make refl refl c.before.match.keys6)
+returns-in-80 : tie.Need-returns-in-80
+returns-in-80 c = c.make_of.ensures ∙ sym (asks c.before.before 80 make_of of_make refl refl c.in-80.is)
 
-returns-7 : tie.Need-returns-7
-returns-7 c =
-    let r = c.match.rest in
-    sym (unlettered (text c.before) (subst Unlettered c.before.letter-of.ensures
+returns-in_default : tie.Need-returns-in_default
+returns-in_default c =
+    let r = c.in_default.in_default-own.rest in
+    sym (unlettered (text c.before) (subst Unlettered c.letter_of.ensures
     (r.0.0.0.0.0.1, r.0.0.0.0.1, r.0.0.0.1, r.0.0.1, r.0.1, r.1)))
 
-pub parse-spec : {M : Type 1} → statement M
-parse-spec =
+pub parse_spec : {M : Type 1} → statement M
+parse_spec =
     tie.close
     (tie.spec
-    letter-of-requires
-    line-of-requires
-    advance-of-requires
-    read-of-requires
-    write-of-requires
-    notify-of-requires
-    make-of-requires
-    returns
-    returns-2
-    returns-3
-    returns-4
-    returns-5
-    returns-6
-    returns-7)
+    letter_of-requires
+    line_of-requires
+    advance_of-requires
+    read_of-requires
+    write_of-requires
+    notify_of-requires
+    make_of-requires
+    returns-in-76
+    returns-in-84
+    returns-in-82
+    returns-in-87
+    returns-in-78
+    returns-in-80
+    returns-in_default)

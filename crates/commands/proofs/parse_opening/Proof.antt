@@ -7,29 +7,29 @@ use Rattle.commands.proofs.Openings.{opening_make, opening_other}
 use Rattle.commands.proofs.parse_opening.Statement.{statement}
 use Rattle.commands.proofs.parse_opening.Tie as tie
 
-letter-of-requires : tie.Need-letter-of-requires
-letter-of-requires c κs = search rules
+letter_of-requires : tie.Need-letter_of-requires
+letter_of-requires c κs = search rules
 
-make-of-requires : tie.Need-make-of-requires
-make-of-requires c κs = search rules
+make_of-requires : tie.Need-make_of-requires
+make_of-requires c κs = search rules
 
-opening-of-requires : tie.Need-opening-of-requires
-opening-of-requires c κs = search rules
+opening_of-requires : tie.Need-opening_of-requires
+opening_of-requires c κs = search rules
+
+returns-then-letter_of-eq80 : tie.Need-returns-then-letter_of-eq80
+returns-then-letter_of-eq80 c =
+    let d = c.before.before.before in
+    let letter = sym d.letter_of.ensures ∙ c.if-letter_of-eq80.true in
+    c.opening_of.ensures
+    ∙ ap opening_of c.make_of.ensures
+    ∙ sym (opening_make d.args.line.now letter)
 
 returns : tie.Need-returns
 returns c =
-    let d = c.before.before.before in
-    let letter = sym d.letter-of.ensures ∙ c.before.before.if1.true in
-    c.Opening-of.ensures
-    ∙ ap opening_of c.before.make-of.ensures
-    ∙ sym (opening_make d.before.before.args.line.now letter)
-
-returns-2 : tie.Need-returns-2
-returns-2 c =
     let d = c.before in
-    sym (opening_other d.before.before.args.line.now (λ e. c.if1.false (d.letter-of.ensures ∙ e)))
+    sym (opening_other d.args.line.now (λ e. c.if-letter_of-eq80.false (d.letter_of.ensures ∙ e)))
 
-pub parse-opening-spec : {M : Type 1} → statement M
-parse-opening-spec =
+pub parse_opening_spec : {M : Type 1} → statement M
+parse_opening_spec =
     tie.close
-    (tie.spec letter-of-requires make-of-requires opening-of-requires returns returns-2)
+    (tie.spec letter_of-requires make_of-requires opening_of-requires returns-then-letter_of-eq80 returns)

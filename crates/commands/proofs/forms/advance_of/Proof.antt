@@ -9,28 +9,28 @@ use Rattle.commands.proofs.Words.{empty_number, Only, only}
 use Rattle.commands.proofs.forms.advance_of.Statement.{statement}
 use Rattle.commands.proofs.forms.advance_of.Tie as tie
 
-word : (c : tie.After-number-at) → let l = c.before.before.args.line.now in Only Advance l c.number_at.result (advance_of (words (drop 2 l)))
+word : (c : tie.After-number_at-ticks) → let l = c.args.line.now in Only Advance l c.number_at-ticks.result (advance_of (words (drop 2 l)))
 unfolding advance_of
-word c = only is_number decimal empty_number c.before.before.args.line.now 2 c.number_at.ensures Advance
+word c = only is_number decimal empty_number c.args.line.now 2 c.number_at-ticks.ensures Advance
 
-number-at-requires : tie.Need-number-at-requires
-number-at-requires c κs = search rules
+number_at-ticks-requires : tie.Need-number_at-ticks-requires
+number_at-ticks-requires c κs = search rules
 
-enum-known-ticks : tie.Need-enum-known-ticks
-enum-known-ticks c = search rules
+enum_known-ticks : tie.Need-enum_known-ticks
+enum_known-ticks c = search rules
 
-enum_told : tie.Need-enum-told
-enum_told c = search rules
+enum_told-1 : tie.Need-enum_told-1
+enum_told-1 c = search rules
+
+returns-in_default : tie.Need-returns-in_default
+returns-in_default c = (word c.before).missing c.in_default.is
+
+returns-then-end-line : tie.Need-returns-then-end-line
+returns-then-end-line c = (word c.before.before).last c.in-Is.is c.if-end-line.true
 
 returns : tie.Need-returns
-returns c = (word c.before.before).missing c.enum_told.given.1
+returns c = (word c.before.before).not_last c.in-Is.is c.if-end-line.false
 
-returns-2 : tie.Need-returns-2
-returns-2 c = (word c.before.before.before.before).last c.before.before.ticks.given.1 c.if1.true
-
-returns-3 : tie.Need-returns-3
-returns-3 c = (word c.before.before.before.before).not_last c.before.before.ticks.given.1 c.if1.false
-
-pub advance-of-spec : {M : Type 1} → statement M
-advance-of-spec =
-    tie.close (tie.spec number-at-requires enum-known-ticks enum_told returns returns-2 returns-3)
+pub advance_of_spec : {M : Type 1} → statement M
+advance_of_spec =
+    tie.close (tie.spec number_at-ticks-requires enum_known-ticks enum_told-1 returns-in_default returns-then-end-line returns)

@@ -18,42 +18,42 @@ use Rattle.commands.proofs.forms.level_at.Statement.{statement}
 use Rattle.commands.proofs.forms.level_at.Tie as tie
 
 -- the byte at a place, where it is the last, is the level
-level-here : (s : ℕ) (l : List ℕ) (at : ℕ) → at + 1 ≡ length l →
+level_here : (s : ℕ) (l : List ℕ) (at : ℕ) → at + 1 ≡ length l →
     level_of s (words (drop at l)) ≡ cond (eqb (get_or l at 0) 48) (Line s false) (cond (eqb (get_or l at 0) 49) (Line s true) Unreadable)
-level-here s l at h =
+level_here s l at h =
     let rest : drop (suc at) l ≡ [] = drop_of_length-le l {i = suc at} (omega arith) in
     ap (λ (m : List ℕ). level_of s (words m)) (drop-cons l at 0 (omega arith) ∙ ap (λ (m : List ℕ). get_or l at 0 ∷ m) rest)
     ∙ level_one s (get_or l at 0)
 
-add-if1 : tie.Need-overflow-add-if1
-add-if1 c = omega arith
+overflow_add-at : tie.Need-overflow_add-at
+overflow_add-at c = omega arith
 
-returns : tie.Need-returns
-returns c =
-    let a = c.before.args in
-    sym (level_not_one a.s (drop a.at a.line.now) (λ h. c.if1.true (omega (arith, length-drop a.at a.line.now))))
+returns-then-at-line : tie.Need-returns-then-at-line
+returns-then-at-line c =
+    let a = c.args in
+    sym (level_not_one a.s (drop a.at a.line.now) (λ h. c.if-at-line.true (omega (arith, length-drop a.at a.line.now))))
 
-shared-slice-read-v : tie.Need-shared-slice-read-v
-shared-slice-read-v c = omega arith
+bounds-line-at : tie.Need-bounds-line-at
+bounds-line-at c = omega arith
 
-returns-2 : tie.Need-returns-2
-returns-2 c =
-    let a = c.before.before.before.args in
-    sym (level-here a.s a.line.now a.at c.before.before.if1.false ∙ cond_so _ _ (eq-eqb _ _ c.if2.true))
+returns-then-v-eq48 : tie.Need-returns-then-v-eq48
+returns-then-v-eq48 c =
+    let a = c.args in
+    sym (level_here a.s a.line.now a.at c.if-at-line.false ∙ cond_so _ _ (eq-eqb _ _ c.if-v-eq48.true))
 
 -- a level that is not 0
-not_zero : (c : tie.Else2) → let a = c.before.before.before.args in
+not_zero : (c : tie.Else-v-eq48) → let a = c.args in
     level_of a.s (words (drop a.at a.line.now)) ≡ cond (eqb (get_or a.line.now a.at 0) 49) (Line a.s true) Unreadable
 not_zero c =
-    let a = c.before.before.before.args in
-    level-here a.s a.line.now a.at c.before.before.if1.false ∙ cond_not _ _ (ne_eqb _ _ c.if2.false)
+    let a = c.args in
+    level_here a.s a.line.now a.at c.if-at-line.false ∙ cond_not _ _ (ne_eqb _ _ c.if-v-eq48.false)
 
-returns-3 : tie.Need-returns-3
-returns-3 c = sym (not_zero c.before ∙ cond_so _ _ (eq-eqb _ _ c.if3.true))
+returns-then-v-eq49 : tie.Need-returns-then-v-eq49
+returns-then-v-eq49 c = sym (not_zero c.before ∙ cond_so _ _ (eq-eqb _ _ c.if-v-eq49.true))
 
-returns-4 : tie.Need-returns-4
-returns-4 c = sym (not_zero c.before ∙ cond_not _ _ (ne_eqb _ _ c.if3.false))
+returns : tie.Need-returns
+returns c = sym (not_zero c.before ∙ cond_not _ _ (ne_eqb _ _ c.if-v-eq49.false))
 
-pub level-at-spec : {M : Type 1} → statement M
-level-at-spec =
-    tie.close (tie.spec add-if1 returns shared-slice-read-v returns-2 returns-3 returns-4)
+pub level_at_spec : {M : Type 1} → statement M
+level_at_spec =
+    tie.close (tie.spec overflow_add-at returns-then-at-line bounds-line-at returns-then-v-eq48 returns-then-v-eq49 returns)

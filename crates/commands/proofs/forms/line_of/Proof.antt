@@ -11,39 +11,39 @@ use Rattle.commands.proofs.Last.{empty_level}
 use Rattle.commands.proofs.forms.line_of.Statement.{statement}
 use Rattle.commands.proofs.forms.line_of.Tie as tie
 
-source : (c : tie.After-number-at) → let l = c.before.before.args.line.now in First level_of l c.number_at.result (line_of (words (drop 2 l)))
+source : (c : tie.After-number_at-source) → let l = c.args.line.now in First level_of l c.number_at-source.result (line_of (words (drop 2 l)))
 unfolding line_of
-source c = first is_number decimal empty_number c.before.before.args.line.now 2 c.number_at.ensures level_of empty_level
+source c = first is_number decimal empty_number c.args.line.now 2 c.number_at-source.ensures level_of empty_level
 
-number-at-requires : tie.Need-number-at-requires
-number-at-requires c κs = search rules
+number_at-source-requires : tie.Need-number_at-source-requires
+number_at-source-requires c κs = search rules
 
-enum-known-source : tie.Need-enum-known-source
-enum-known-source c = search rules
+enum_known-source : tie.Need-enum_known-source
+enum_known-source c = search rules
 
-enum_told : tie.Need-enum-told
-enum_told c = search rules
+enum_told-1 : tie.Need-enum_told-1
+enum_told-1 c = search rules
+
+returns-in_default : tie.Need-returns-in_default
+returns-in_default c = (source c.before).missing c.in_default.is
+
+overflow_add-next : tie.Need-overflow_add-next
+overflow_add-next c = omega (arith, (source c.before).within c.in-Is.is)
+
+level_at-requires : tie.Need-level_at-requires
+level_at-requires c κs = omega (arith, (source c.before).within c.in-Is.is)
 
 returns : tie.Need-returns
-returns c = (source c.before.before).missing c.enum_told.given.1
+returns c = c.level_at.ensures ∙ sym ((source c.before.before).next c.in-Is.is)
 
-add-level-at : tie.Need-overflow-add-level-at
-add-level-at c = omega (arith, (source c.before.before.before).within c.before.source.given.1)
-
-level-at-requires : tie.Need-level-at-requires
-level-at-requires c κs = omega (arith, (source c.before.before.before).within c.before.source.given.1)
-
-returns-2 : tie.Need-returns-2
-returns-2 c = c.level-at.ensures ∙ sym ((source c.before.before.before.before).next c.before.before.source.given.1)
-
-pub line-of-spec : {M : Type 1} → statement M
-line-of-spec =
+pub line_of_spec : {M : Type 1} → statement M
+line_of_spec =
     tie.close
     (tie.spec
-    number-at-requires
-    enum-known-source
-    enum_told
-    returns
-    add-level-at
-    level-at-requires
-    returns-2)
+    number_at-source-requires
+    enum_known-source
+    enum_told-1
+    returns-in_default
+    overflow_add-next
+    level_at-requires
+    returns)

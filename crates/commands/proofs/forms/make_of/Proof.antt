@@ -15,176 +15,176 @@ use Rattle.commands.proofs.forms.make_of.Statement.{statement}
 use Rattle.commands.proofs.forms.make_of.Tie as tie
 
 -- the line, and what it asks for
-abbrev text : tie.After-number-at → List ℕ
-text c = c.before.before.args.line.now
+abbrev text : tie.After-number_at-sources → List ℕ
+text c = c.args.line.now
 
-abbrev asked : tie.After-number-at → Command
+abbrev asked : tie.After-number_at-sources → Command
 asked c = make_of (length (text c)) (words (drop 2 (text c)))
 
 -- what is asked for after the first number, and after the second
-abbrev contexts-of : ℕ → ℕ → List (List ℕ) → Command
-contexts-of long x = valued is_number decimal (λ y. valued is_number decimal (λ z. kinds_of long x y z))
+abbrev contexts_of : ℕ → ℕ → List (List ℕ) → Command
+contexts_of long x = valued is_number decimal (λ y. valued is_number decimal (λ z. kinds_of long x y z))
 
 abbrev bits_of : ℕ → ℕ → ℕ → List (List ℕ) → Command
 bits_of long x y = valued is_number decimal (λ z. kinds_of long x y z)
 
 -- once a number is known: the places before, the number, and where it ends
-abbrev one : tie.After-known-told → tie.After-number-at
-one c = c.before.before.before
+abbrev one : tie.In-Is → tie.After-number_at-sources
+one c = c.before
 
-abbrev n : tie.After-known-told → ℕ
-n c = c.before.sources.given.0.0
+abbrev n : tie.In-Is → ℕ
+n c = c.in-Is.n
 
-abbrev n-end : tie.After-known-told → ℕ
-n-end c = c.before.sources.given.0.1.0
+abbrev n_end : tie.In-Is → ℕ
+n_end c = c.in-Is.second
 
-abbrev two : tie.After-known-told2 → tie.After-number-at2
-two c = c.before.before.before
+abbrev two : tie.In-Is-contexts → tie.After-number_at-contexts
+two c = c.before
 
-abbrev m : tie.After-known-told2 → ℕ
-m c = c.before.contexts.given.0.0
+abbrev m : tie.In-Is-contexts → ℕ
+m c = c.in-Is-contexts.c
 
-abbrev m-end : tie.After-known-told2 → ℕ
-m-end c = c.before.contexts.given.0.1.0
+abbrev m_end : tie.In-Is-contexts → ℕ
+m_end c = c.in-Is-contexts.third
 
-abbrev three : tie.After-known-told3 → tie.After-number-at3
-three c = c.before.before.before
+abbrev three : tie.In-Is-bits → tie.After-number_at-bits
+three c = c.before
 
-abbrev k : tie.After-known-told3 → ℕ
-k c = c.before.bits.given.0.0
+abbrev k : tie.In-Is-bits → ℕ
+k c = c.in-Is-bits.b
 
-abbrev k-end : tie.After-known-told3 → ℕ
-k-end c = c.before.bits.given.0.1.0
+abbrev k_end : tie.In-Is-bits → ℕ
+k_end c = c.in-Is-bits.last
 
 -- the line, from the later places
-abbrev text-2 : tie.After-number-at2 → List ℕ
-text-2 c = text (one c.before)
+abbrev text_2 : tie.After-number_at-contexts → List ℕ
+text_2 c = text (one c.before)
 
-abbrev asked-2 : tie.After-number-at2 → Command
-asked-2 c = asked (one c.before)
+abbrev asked_2 : tie.After-number_at-contexts → Command
+asked_2 c = asked (one c.before)
 
-abbrev text-3 : tie.After-number-at3 → List ℕ
-text-3 c = text-2 (two c.before)
+abbrev text_3 : tie.After-number_at-bits → List ℕ
+text_3 c = text_2 (two c.before)
 
-abbrev asked-3 : tie.After-number-at3 → Command
-asked-3 c = asked-2 (two c.before)
+abbrev asked_3 : tie.After-number_at-bits → Command
+asked_3 c = asked_2 (two c.before)
 
 -- each number
-sources : (c : tie.After-number-at) → First (contexts-of (length (text c))) (text c) c.number_at.result (asked c)
+sources : (c : tie.After-number_at-sources) → First (contexts_of (length (text c))) (text c) c.number_at-sources.result (asked c)
 unfolding make_of
 sources c =
-    first is_number decimal empty_number (text c) 2 c.number_at.ensures (contexts-of (length (text c)))
+    first is_number decimal empty_number (text c) 2 c.number_at-sources.ensures (contexts_of (length (text c)))
     (λ x. empty_valued is_number decimal _ empty_number)
 
-contexts : (c : tie.After-number-at2) → First (bits_of (length (text-2 c)) (n c.before)) (text-2 c) c.number-at2.result (asked-2 c)
+contexts : (c : tie.After-number_at-contexts) → First (bits_of (length (text_2 c)) (n c.before)) (text_2 c) c.number_at-contexts.result (asked_2 c)
 contexts c =
     let d = c.before in
-    rw ((sources (one d)).next d.before.sources.given.1)
-    (first is_number decimal empty_number (text-2 c) (n-end d + 1) c.number-at2.ensures (bits_of (length (text-2 c)) (n d))
+    rw ((sources (one d)).next d.in-Is.is)
+    (first is_number decimal empty_number (text_2 c) (n_end d + 1) c.number_at-contexts.ensures (bits_of (length (text_2 c)) (n d))
     (λ y. empty_valued is_number decimal _ empty_number))
 
-bits : (c : tie.After-number-at3) → let d = c.before in
-    First (kinds_of (length (text-3 c)) (n (two d).before) (m d)) (text-3 c) c.number-at3.result (asked-3 c)
+bits : (c : tie.After-number_at-bits) → let d = c.before in
+    First (kinds_of (length (text_3 c)) (n (two d).before) (m d)) (text_3 c) c.number_at-bits.result (asked_3 c)
 bits c =
     let d = c.before in
     let x = n (two d).before in
-    rw ((contexts (two d)).next d.before.contexts.given.1)
-    (first is_number decimal empty_number (text-3 c) (m-end d + 1) c.number-at3.ensures (kinds_of (length (text-3 c)) x (m d))
-    (empty_kinds (length (text-3 c)) x (m d)))
+    rw ((contexts (two d)).next d.in-Is-contexts.is)
+    (first is_number decimal empty_number (text_3 c) (m_end d + 1) c.number_at-bits.ensures (kinds_of (length (text_3 c)) x (m d))
+    (empty_kinds (length (text_3 c)) x (m d)))
 
-bits-within : (c : tie.After-known-told3) → k-end c ≤ length (text-3 (three c))
-bits-within c = (bits (three c)).within c.before.bits.given.1
+bits_within : (c : tie.In-Is-bits) → k_end c ≤ length (text_3 (three c))
+bits_within c = (bits (three c)).within c.in-Is-bits.is
 
-number-at-requires : tie.Need-number-at-requires
-number-at-requires c κs = search rules
+number_at-sources-requires : tie.Need-number_at-sources-requires
+number_at-sources-requires c κs = search rules
 
-enum-known-sources : tie.Need-enum-known-sources
-enum-known-sources c = search rules
+enum_known-sources : tie.Need-enum_known-sources
+enum_known-sources c = search rules
 
-enum_told : tie.Need-enum-told
-enum_told c = search rules
+enum_told-1 : tie.Need-enum_told-1
+enum_told-1 c = search rules
 
-returns : tie.Need-returns
-returns c = (sources c.before.before).missing c.enum_told.given.1
+returns-in_default : tie.Need-returns-in_default
+returns-in_default c = (sources c.before).missing c.in_default.is
 
-add-number-at : tie.Need-overflow-add-number-at
-add-number-at c = omega (arith, (sources (one c)).within c.before.sources.given.1)
+overflow_add-second : tie.Need-overflow_add-second
+overflow_add-second c = omega (arith, (sources (one c)).within c.in-Is.is)
 
-number-at-requires-2 : tie.Need-number-at-requires-2
-number-at-requires-2 c κs = search rules
+number_at-contexts-requires : tie.Need-number_at-contexts-requires
+number_at-contexts-requires c κs = search rules
 
-enum-known-contexts : tie.Need-enum-known-contexts
-enum-known-contexts c = search rules
+enum_known-contexts : tie.Need-enum_known-contexts
+enum_known-contexts c = search rules
 
-enum-told-2 : tie.Need-enum-told-2
-enum-told-2 c = search rules
+enum_told-in_default-contexts : tie.Need-enum_told-in_default-contexts
+enum_told-in_default-contexts c = search rules
 
-returns-2 : tie.Need-returns-2
-returns-2 c = (contexts c.before.before).missing c.enum-told2.given.1
+returns-in_default-contexts : tie.Need-returns-in_default-contexts
+returns-in_default-contexts c = (contexts c.before).missing c.in_default-contexts.is
 
-add-number-at-2 : tie.Need-overflow-add-number-at-2
-add-number-at-2 c = omega (arith, (contexts (two c)).within c.before.contexts.given.1)
+overflow_add-third : tie.Need-overflow_add-third
+overflow_add-third c = omega (arith, (contexts (two c)).within c.in-Is-contexts.is)
 
-number-at-requires-3 : tie.Need-number-at-requires-3
-number-at-requires-3 c κs = search rules
+number_at-bits-requires : tie.Need-number_at-bits-requires
+number_at-bits-requires c κs = search rules
 
-enum-known-bits : tie.Need-enum-known-bits
-enum-known-bits c = search rules
+enum_known-bits : tie.Need-enum_known-bits
+enum_known-bits c = search rules
 
-enum-told-3 : tie.Need-enum-told-3
-enum-told-3 c = search rules
+enum_told-in_default-bits : tie.Need-enum_told-in_default-bits
+enum_told-in_default-bits c = search rules
 
-returns-3 : tie.Need-returns-3
-returns-3 c = (bits c.before.before).missing c.enum-told3.given.1
+returns-in_default-bits : tie.Need-returns-in_default-bits
+returns-in_default-bits c = (bits c.before).missing c.in_default-bits.is
 
-add-kinds-at : tie.Need-overflow-add-kinds-at
-add-kinds-at c = omega (arith, bits-within c)
+overflow_add-last : tie.Need-overflow_add-last
+overflow_add-last c = omega (arith, bits_within c)
 
-kinds-at-requires : tie.Need-kinds-at-requires
-kinds-at-requires c κs = search rules
+kinds_at-requires : tie.Need-kinds_at-requires
+kinds_at-requires c κs = search rules
 
-add-t13 : tie.Need-overflow-add-t13
-add-t13 c = omega (arith, bits-within c.before.before)
+overflow_add-result : tie.Need-overflow_add-result
+overflow_add-result c = omega (arith, bits_within c.before.before)
 
 -- the bytes after the numbers
-kinds : (c : tie.After-known-told3) → let e = three c in
-    asked-3 e ≡ kinds_of (length (text-3 e)) (n (two e.before).before) (m e.before) (k c) (words (drop (k-end c + 1) (text-3 e)))
-kinds c = (bits (three c)).next c.before.bits.given.1
+kinds : (c : tie.In-Is-bits) → let e = three c in
+    asked_3 e ≡ kinds_of (length (text_3 e)) (n (two e.before).before) (m e.before) (k c) (words (drop (k_end c + 1) (text_3 e)))
+kinds c = (bits (three c)).next c.in-Is-bits.is
 
-returns-4 : tie.Need-returns-4
-returns-4 c =
+returns-then-kinds_at : tie.Need-returns-then-kinds_at
+returns-then-kinds_at c =
     let d = c.before.before in
     let e = three d in
-    let is = sym c.before.kinds-at.ensures ∙ c.if1.true in
-    sym (kinds d ∙ kinds_so (n (two e.before).before) (m e.before) (k d) (text-3 e) (k-end d + 1) is)
+    let is = sym c.kinds_at.ensures ∙ c.if-kinds_at.true in
+    sym (kinds d ∙ kinds_so (n (two e.before).before) (m e.before) (k d) (text_3 e) (k_end d + 1) is)
 
-returns-5 : tie.Need-returns-5
-returns-5 c =
+returns : tie.Need-returns
+returns c =
     let d = c.before.before in
     let e = three d in
-    let not = sym c.before.kinds-at.ensures ∙ c.if1.false in
-    sym (kinds d ∙ kinds_not (n (two e.before).before) (m e.before) (k d) (text-3 e) (k-end d + 1) not)
+    let not = sym c.kinds_at.ensures ∙ c.if-kinds_at.false in
+    sym (kinds d ∙ kinds_not (n (two e.before).before) (m e.before) (k d) (text_3 e) (k_end d + 1) not)
 
-pub make-of-spec : {M : Type 1} → statement M
-make-of-spec =
+pub make_of_spec : {M : Type 1} → statement M
+make_of_spec =
     tie.close
     (tie.spec
-    number-at-requires
-    enum-known-sources
-    enum_told
-    returns
-    add-number-at
-    number-at-requires-2
-    enum-known-contexts
-    enum-told-2
-    returns-2
-    add-number-at-2
-    number-at-requires-3
-    enum-known-bits
-    enum-told-3
-    returns-3
-    add-kinds-at
-    kinds-at-requires
-    add-t13
-    returns-4
-    returns-5)
+    number_at-sources-requires
+    enum_known-sources
+    enum_told-1
+    returns-in_default
+    overflow_add-second
+    number_at-contexts-requires
+    enum_known-contexts
+    enum_told-in_default-contexts
+    returns-in_default-contexts
+    overflow_add-third
+    number_at-bits-requires
+    enum_known-bits
+    enum_told-in_default-bits
+    returns-in_default-bits
+    overflow_add-last
+    kinds_at-requires
+    overflow_add-result
+    returns-then-kinds_at
+    returns)

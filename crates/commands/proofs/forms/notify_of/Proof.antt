@@ -9,28 +9,28 @@ use Rattle.commands.proofs.Words.{empty_number, Only, only}
 use Rattle.commands.proofs.forms.notify_of.Statement.{statement}
 use Rattle.commands.proofs.forms.notify_of.Tie as tie
 
-word : (c : tie.After-number-at) → let l = c.before.before.args.line.now in Only Notify l c.number_at.result (notify_of (words (drop 2 l)))
+word : (c : tie.After-number_at-context) → let l = c.args.line.now in Only Notify l c.number_at-context.result (notify_of (words (drop 2 l)))
 unfolding notify_of
-word c = only is_number decimal empty_number c.before.before.args.line.now 2 c.number_at.ensures Notify
+word c = only is_number decimal empty_number c.args.line.now 2 c.number_at-context.ensures Notify
 
-number-at-requires : tie.Need-number-at-requires
-number-at-requires c κs = search rules
+number_at-context-requires : tie.Need-number_at-context-requires
+number_at-context-requires c κs = search rules
 
-enum-known-context : tie.Need-enum-known-context
-enum-known-context c = search rules
+enum_known-context : tie.Need-enum_known-context
+enum_known-context c = search rules
 
-enum_told : tie.Need-enum-told
-enum_told c = search rules
+enum_told-1 : tie.Need-enum_told-1
+enum_told-1 c = search rules
+
+returns-in_default : tie.Need-returns-in_default
+returns-in_default c = (word c.before).missing c.in_default.is
+
+returns-then-end-line : tie.Need-returns-then-end-line
+returns-then-end-line c = (word c.before.before).last c.in-Is.is c.if-end-line.true
 
 returns : tie.Need-returns
-returns c = (word c.before.before).missing c.enum_told.given.1
+returns c = (word c.before.before).not_last c.in-Is.is c.if-end-line.false
 
-returns-2 : tie.Need-returns-2
-returns-2 c = (word c.before.before.before.before).last c.before.before.context.given.1 c.if1.true
-
-returns-3 : tie.Need-returns-3
-returns-3 c = (word c.before.before.before.before).not_last c.before.before.context.given.1 c.if1.false
-
-pub notify-of-spec : {M : Type 1} → statement M
-notify-of-spec =
-    tie.close (tie.spec number-at-requires enum-known-context enum_told returns returns-2 returns-3)
+pub notify_of_spec : {M : Type 1} → statement M
+notify_of_spec =
+    tie.close (tie.spec number_at-context-requires enum_known-context enum_told-1 returns-in_default returns-then-end-line returns)

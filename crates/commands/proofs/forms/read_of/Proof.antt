@@ -10,28 +10,28 @@ use Rattle.commands.proofs.Words.{empty_offset, Only, only}
 use Rattle.commands.proofs.forms.read_of.Statement.{statement}
 use Rattle.commands.proofs.forms.read_of.Tie as tie
 
-word : (c : tie.After-offset-at) → let l = c.before.before.args.line.now in Only Read l c.offset_at.result (read_of (words (drop 2 l)))
+word : (c : tie.After-offset_at-offset) → let l = c.args.line.now in Only Read l c.offset_at-offset.result (read_of (words (drop 2 l)))
 unfolding read_of
-word c = only is_offset hex empty_offset c.before.before.args.line.now 2 c.offset_at.ensures Read
+word c = only is_offset hex empty_offset c.args.line.now 2 c.offset_at-offset.ensures Read
 
-offset-at-requires : tie.Need-offset-at-requires
-offset-at-requires c κs = omega arith
+offset_at-offset-requires : tie.Need-offset_at-offset-requires
+offset_at-offset-requires c κs = omega arith
 
-enum-known-offset : tie.Need-enum-known-offset
-enum-known-offset c = search rules
+enum_known-offset : tie.Need-enum_known-offset
+enum_known-offset c = search rules
 
-enum_told : tie.Need-enum-told
-enum_told c = search rules
+enum_told-1 : tie.Need-enum_told-1
+enum_told-1 c = search rules
+
+returns-in_default : tie.Need-returns-in_default
+returns-in_default c = (word c.before).missing c.in_default.is
+
+returns-then-end-line : tie.Need-returns-then-end-line
+returns-then-end-line c = (word c.before.before).last c.in-Is.is c.if-end-line.true
 
 returns : tie.Need-returns
-returns c = (word c.before.before).missing c.enum_told.given.1
+returns c = (word c.before.before).not_last c.in-Is.is c.if-end-line.false
 
-returns-2 : tie.Need-returns-2
-returns-2 c = (word c.before.before.before.before).last c.before.before.offset.given.1 c.if1.true
-
-returns-3 : tie.Need-returns-3
-returns-3 c = (word c.before.before.before.before).not_last c.before.before.offset.given.1 c.if1.false
-
-pub read-of-spec : {M : Type 1} → statement M
-read-of-spec =
-    tie.close (tie.spec offset-at-requires enum-known-offset enum_told returns returns-2 returns-3)
+pub read_of_spec : {M : Type 1} → statement M
+read_of_spec =
+    tie.close (tie.spec offset_at-offset-requires enum_known-offset enum_told-1 returns-in_default returns-then-end-line returns)

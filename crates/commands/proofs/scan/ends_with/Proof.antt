@@ -16,27 +16,27 @@ use Rattle.commands.proofs.scan.ends_with.Statement.{statement}
 use Rattle.commands.proofs.scan.ends_with.Tie as tie
 
 -- where the line does not end: the byte that stands there
-byte-here : (c : tie.After-shared-slice-known) → let a = c.before.before.args in
+byte_here : (c : tie.After-shared_slice_known-1) → let a = c.args in
     ends_with a.v (drop a.at a.line.now) a.at ≡ cond (eqb (get_or a.line.now a.at 0) 32) (Is a.v a.at) Nothing
 unfolding ends_with
-byte-here c =
-    let a = c.before.before.args in
+byte_here c =
+    let a = c.args in
     ap (λ (m : List ℕ). ends_with a.v m a.at) (drop-cons a.line.now a.at 0 (omega arith))
 
-returns : tie.Need-returns
+returns-then-at-line : tie.Need-returns-then-at-line
 unfolding ends_with
-returns c =
-    let a = c.before.args in
+returns-then-at-line c =
+    let a = c.args in
     sym (ap (λ (m : List ℕ). ends_with a.v m a.at) (drop_of_length-le a.line.now {i = a.at} (omega arith)))
 
-shared-slice-read-if2 : tie.Need-shared-slice-read-if2
-shared-slice-read-if2 c = omega arith
+bounds-line-at : tie.Need-bounds-line-at
+bounds-line-at c = omega arith
 
-returns-2 : tie.Need-returns-2
-returns-2 c = sym (byte-here c.before ∙ cond_so _ _ (eq-eqb _ _ c.if2.true))
+returns-then-line-at-eq32 : tie.Need-returns-then-line-at-eq32
+returns-then-line-at-eq32 c = sym (byte_here c.before ∙ cond_so _ _ (eq-eqb _ _ c.if-line-at-eq32.true))
 
-returns-3 : tie.Need-returns-3
-returns-3 c = sym (byte-here c.before ∙ cond_not _ _ (ne_eqb _ _ c.if2.false))
+returns : tie.Need-returns
+returns c = sym (byte_here c.before ∙ cond_not _ _ (ne_eqb _ _ c.if-line-at-eq32.false))
 
-pub ends-with-spec : {M : Type 1} → statement M
-ends-with-spec = tie.close (tie.spec returns shared-slice-read-if2 returns-2 returns-3)
+pub ends_with_spec : {M : Type 1} → statement M
+ends_with_spec = tie.close (tie.spec returns-then-at-line bounds-line-at returns-then-line-at-eq32 returns)

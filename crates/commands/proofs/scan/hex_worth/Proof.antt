@@ -11,48 +11,48 @@ use Rattle.commands.proofs.Digits.{digit_bounds, hex_worth_digit, hex_worth_capi
 use Rattle.commands.proofs.scan.hex_worth.Statement.{statement}
 use Rattle.commands.proofs.scan.hex_worth.Tie as tie
 
-is-digit-requires : tie.Need-is-digit-requires
-is-digit-requires c κs = search rules
+is_digit-requires : tie.Need-is_digit-requires
+is_digit-requires c κs = search rules
 
 wide-requires : tie.Need-wide-requires
 wide-requires c κs = search rules
 
-sub-result : tie.Need-overflow-sub-result
-sub-result c =
-    let byte = c.before.before.before.args.b in
-    omega (arith, digit_bounds byte (sym c.before.before.is_digit.ensures ∙ c.before.if1.true))
+overflow_sub-result : tie.Need-overflow_sub-result
+overflow_sub-result c =
+    let byte = c.args.b in
+    omega (arith, digit_bounds byte (sym c.is_digit.ensures ∙ c.if-is_digit.true))
+
+returns-then-is_digit : tie.Need-returns-then-is_digit
+returns-then-is_digit c =
+    let byte = c.args.b in
+    ap (λ x. x - 48) c.wide.ensures.0 ∙ sym (hex_worth_digit byte (sym c.is_digit.ensures ∙ c.if-is_digit.true))
+
+wide-requires-then-b : tie.Need-wide-requires-then-b
+wide-requires-then-b c κs = search rules
+
+overflow_sub-result-then-b : tie.Need-overflow_sub-result-then-b
+overflow_sub-result-then-b c =
+    let byte = c.args.b in
+    omega (arith, leb-true 65 byte (and_left (leb 65 byte) (leb byte 70) c.if-b.true))
+
+returns-then-b : tie.Need-returns-then-b
+returns-then-b c =
+    let byte = c.args.b in
+    ap (λ x. x - 55) c.wide-then-b.ensures.0
+    ∙ sym (hex_worth_capital byte (sym c.is_digit.ensures ∙ c.if-is_digit.false) c.if-b.true)
 
 returns : tie.Need-returns
-returns c =
-    let byte = c.before.before.before.args.b in
-    ap (λ x. x - 48) c.wide.ensures.0 ∙ sym (hex_worth_digit byte (sym c.before.before.is_digit.ensures ∙ c.before.if1.true))
+returns c = sym (hex_worth_other c.args.b (sym c.is_digit.ensures ∙ c.if-is_digit.false) c.if-b.false)
 
-wide-requires-2 : tie.Need-wide-requires-2
-wide-requires-2 c κs = search rules
-
-sub-result-2 : tie.Need-overflow-sub-result-2
-sub-result-2 c =
-    let byte = c.before.before.before.before.args.b in
-    omega (arith, leb-true 65 byte (and_left (leb 65 byte) (leb byte 70) c.before.if2.true))
-
-returns-2 : tie.Need-returns-2
-returns-2 c =
-    let byte = c.before.before.before.before.args.b in
-    ap (λ x. x - 55) c.wide2.ensures.0
-    ∙ sym (hex_worth_capital byte (sym c.before.before.before.is_digit.ensures ∙ c.before.before.if1.false) c.before.if2.true)
-
-returns-3 : tie.Need-returns-3
-returns-3 c = sym (hex_worth_other c.before.before.before.args.b (sym c.before.before.is_digit.ensures ∙ c.before.if1.false) c.if2.false)
-
-pub hex-worth-spec : {M : Type 1} → statement M
-hex-worth-spec =
+pub hex_worth_spec : {M : Type 1} → statement M
+hex_worth_spec =
     tie.close
     (tie.spec
-    is-digit-requires
+    is_digit-requires
     wide-requires
-    sub-result
-    returns
-    wide-requires-2
-    sub-result-2
-    returns-2
-    returns-3)
+    overflow_sub-result
+    returns-then-is_digit
+    wide-requires-then-b
+    overflow_sub-result-then-b
+    returns-then-b
+    returns)

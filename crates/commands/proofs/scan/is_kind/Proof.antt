@@ -9,5 +9,5 @@ returns : tie.Need-returns
 unfolding is_kind
 returns c = refl
 
-pub is-kind-spec : {M : Type 1} → statement M
-is-kind-spec = tie.close (tie.spec returns)
+pub is_kind_spec : {M : Type 1} → statement M
+is_kind_spec = tie.close (tie.spec returns)

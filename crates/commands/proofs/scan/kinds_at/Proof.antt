@@ -16,76 +16,76 @@ use Rattle.commands.proofs.scan.kinds_at.Statement.{statement}
 use Rattle.commands.proofs.scan.kinds_at.Tie as tie
 
 -- letters of kinds from a place on are the letter there and the letters after it
-every-step : (l : List ℕ) (i : ℕ) → i < length l → every is_kind (drop i l) ≡ (is_kind (get_or l i 0) && every is_kind (drop (i + 1) l))
+every_step : (l : List ℕ) (i : ℕ) → i < length l → every is_kind (drop i l) ≡ (is_kind (get_or l i 0) && every is_kind (drop (i + 1) l))
 unfolding every
-every-step l i h =
+every_step l i h =
     ap (every is_kind) (drop-cons l i 0 h) ∙ ap (λ (n : ℕ). is_kind (get_or l i 0) && every is_kind (drop n l)) (sym (add-one i))
 
 -- of a byte or more, kinds are letters of kinds and no more is asked
-kinds-are : (l : List ℕ) (at : ℕ) → at < length l → is_kinds (drop at l) ≡ every is_kind (drop at l)
+kinds_are : (l : List ℕ) (at : ℕ) → at < length l → is_kinds (drop at l) ≡ every is_kind (drop at l)
 unfolding is_kinds every
-kinds-are l at h = ap is_kinds (drop-cons l at 0 h) ∙ sym (ap (every is_kind) (drop-cons l at 0 h))
+kinds_are l at h = ap is_kinds (drop-cons l at 0 h) ∙ sym (ap (every is_kind) (drop-cons l at 0 h))
 
-abbrev invariant-loop : tie.invariant-loop
-invariant-loop line at i₀ i = (i ≤ length line) × (every is_kind (drop i line) ≡ is_kinds (drop at line))
+abbrev invariant-loop-i : tie.invariant-loop-i
+invariant-loop-i line at i₀ i = (i ≤ length line) × (every is_kind (drop i line) ≡ is_kinds (drop at line))
 
-abbrev decreases-loop : tie.decreases-loop
-decreases-loop line at i₀ i = length line - i
+abbrev decreases-loop-i : tie.decreases-loop-i
+decreases-loop-i line at i₀ i = length line - i
 
-returns : tie.Need-returns invariant-loop decreases-loop
+returns-then-line-at : tie.Need-returns-then-line-at invariant-loop-i decreases-loop-i
 unfolding is_kinds
-returns c = sym (ap is_kinds (drop_of_length-le c.before.before.args.line.now c.if1.true))
+returns-then-line-at c = sym (ap is_kinds (drop_of_length-le c.args.line.now c.if-line-at.true))
 
-loop-holds : tie.Need-loop-init invariant-loop decreases-loop
-loop-holds c = (omega arith, sym (kinds-are c.before.before.args.line.now c.before.before.args.at c.if1.false))
+loop-i-init : tie.Need-loop-i-init invariant-loop-i decreases-loop-i
+loop-i-init c = (omega arith, sym (kinds_are c.args.line.now c.args.at c.if-line-at.false))
 
-shared-slice-read-b : tie.Need-shared-slice-read-b invariant-loop decreases-loop
-shared-slice-read-b c = omega arith
+bounds-line-i : tie.Need-bounds-line-i invariant-loop-i decreases-loop-i
+bounds-line-i c = omega arith
 
-is-kind-requires : tie.Need-is-kind-requires invariant-loop decreases-loop
-is-kind-requires c κs = search rules
+is_kind-requires : tie.Need-is_kind-requires invariant-loop-i decreases-loop-i
+is_kind-requires c κs = search rules
 
-returns-2 : tie.Need-returns-2 invariant-loop decreases-loop
-returns-2 c =
-    let l = c.before.before.before.before.loop in
+returns-then-not-is_kind : tie.Need-returns-then-not-is_kind invariant-loop-i decreases-loop-i
+returns-then-not-is_kind c =
+    let l = c.loop-i in
     sym (sym l.invariant.1
-    ∙ every-step c.before.before.before.before.before.before.before.args.line.now l.i c.before.before.before.loop-test.true
-    ∙ and_fails_left _ (sym c.before.is-kind.ensures ∙ not-true _ c.if2.true))
+    ∙ every_step c.args.line.now l.i c.loop-i-test.true
+    ∙ and_fails_left _ (sym c.is_kind.ensures ∙ not-true _ c.if-not-is_kind.true-raw))
 
-add-i : tie.Need-overflow-add-i invariant-loop decreases-loop
-add-i c = omega arith
+overflow_add-i : tie.Need-overflow_add-i invariant-loop-i decreases-loop-i
+overflow_add-i c = omega arith
 
-loop-less : tie.Need-loop-smaller invariant-loop decreases-loop
-loop-less c = omega arith
+loop-i-smaller : tie.Need-loop-i-smaller invariant-loop-i decreases-loop-i
+loop-i-smaller c = omega arith
 
-loop-again : tie.Need-loop-preserved invariant-loop decreases-loop
-loop-again c =
-    let l = c.before.before.before.before.loop in
-    let line = c.before.before.before.before.before.before.before.args.line.now in (
+loop-i-preserved : tie.Need-loop-i-preserved invariant-loop-i decreases-loop-i
+loop-i-preserved c =
+    let l = c.loop-i in
+    let line = c.args.line.now in (
       omega arith,
-      sym (ap (λ (t : Bool). t && every is_kind (drop (l.i + 1) line)) (sym c.before.is-kind.ensures ∙ not-false _ c.if2.false))
-          ∙ sym (every-step line l.i c.before.before.before.loop-test.true)
+      sym (ap (λ (t : Bool). t && every is_kind (drop (l.i + 1) line)) (sym c.is_kind.ensures ∙ not-false _ c.if-not-is_kind.false-raw))
+          ∙ sym (every_step line l.i c.loop-i-test.true)
           ∙ l.invariant.1,
     )
 
-returns-3 : tie.Need-returns-3 invariant-loop decreases-loop
+returns : tie.Need-returns invariant-loop-i decreases-loop-i
 unfolding every
-returns-3 c =
-    let l = c.before.loop in
-    sym (sym l.invariant.1 ∙ ap (every is_kind) (drop_of_length-le c.before.before.before.before.args.line.now {i = l.i} c.loop-test.false))
+returns c =
+    let l = c.loop-i in
+    sym (sym l.invariant.1 ∙ ap (every is_kind) (drop_of_length-le c.args.line.now {i = l.i} c.loop-i-test.false))
 
-pub kinds-at-spec : {M : Type 1} → statement M
-kinds-at-spec =
+pub kinds_at_spec : {M : Type 1} → statement M
+kinds_at_spec =
     tie.close
     (tie.spec
-    invariant-loop
-    decreases-loop
-    returns
-    loop-holds
-    shared-slice-read-b
-    is-kind-requires
-    returns-2
-    add-i
-    loop-less
-    loop-again
-    returns-3)
+    invariant-loop-i
+    decreases-loop-i
+    returns-then-line-at
+    loop-i-init
+    bounds-line-i
+    is_kind-requires
+    returns-then-not-is_kind
+    overflow_add-i
+    loop-i-smaller
+    loop-i-preserved
+    returns)

@@ -16,80 +16,80 @@ use Rattle.commands.proofs.scan.number_at.Statement.{statement}
 use Rattle.commands.proofs.scan.number_at.Tie as tie
 
 -- a number is looked for in the bytes from its place on: none, or a first and the rest
-none-at : (l : List ℕ) (at : ℕ) → length l ≤ at → number_at l at ≡ value_of is_number decimal [] at
-none-at l at h = ap (λ (m : List ℕ). value_of is_number decimal m at) (drop_of_length-le l h)
+none_at : (l : List ℕ) (at : ℕ) → length l ≤ at → number_at l at ≡ value_of is_number decimal [] at
+none_at l at h = ap (λ (m : List ℕ). value_of is_number decimal m at) (drop_of_length-le l h)
 
-first-at : (l : List ℕ) (at : ℕ) → at < length l → number_at l at ≡ value_of is_number decimal (get_or l at 0 ∷ drop (at + 1) l) at
-first-at l at h =
+first_at : (l : List ℕ) (at : ℕ) → at < length l → number_at l at ≡ value_of is_number decimal (get_or l at 0 ∷ drop (at + 1) l) at
+first_at l at h =
     ap (λ (m : List ℕ). value_of is_number decimal m at) (drop-cons l at 0 h)
     ∙ ap (λ (n : ℕ). value_of is_number decimal (get_or l at 0 ∷ drop n l) at) (sym (add-one at))
 
-returns : tie.Need-returns
-returns c = let a = c.before.before.args in sym (none-at a.line.now a.at c.if1.true ∙ number_none a.at)
+returns-then-line-at : tie.Need-returns-then-line-at
+returns-then-line-at c = let a = c.args in sym (none_at a.line.now a.at c.if-line-at.true ∙ number_none a.at)
 
-shared-slice-read-b : tie.Need-shared-slice-read-b
-shared-slice-read-b c = omega arith
+bounds-line-at : tie.Need-bounds-line-at
+bounds-line-at c = omega arith
 
-is-digit-requires : tie.Need-is-digit-requires
-is-digit-requires c κs = search rules
+is_digit-requires : tie.Need-is_digit-requires
+is_digit-requires c κs = search rules
 
-returns-2 : tie.Need-returns-2
-returns-2 c =
-    let a = c.before.before.before.before.before.args in
-    sym (first-at a.line.now a.at c.before.before.before.if1.false ∙ number_not _ _ a.at (sym c.before.is_digit.ensures ∙ not-true _ c.if2.true))
+returns-then-not-is_digit : tie.Need-returns-then-not-is_digit
+returns-then-not-is_digit c =
+    let a = c.args in
+    sym (first_at a.line.now a.at c.if-line-at.false ∙ number_not _ _ a.at (sym c.is_digit.ensures ∙ not-true _ c.if-not-is_digit.true-raw))
 
-add-ends-with : tie.Need-overflow-add-ends-with
-add-ends-with c = omega arith
+overflow_add-at : tie.Need-overflow_add-at
+overflow_add-at c = omega arith
 
-ends-with-requires : tie.Need-ends-with-requires
-ends-with-requires c κs = omega arith
+ends_with-requires : tie.Need-ends_with-requires
+ends_with-requires c κs = omega arith
 
-returns-3 : tie.Need-returns-3
-returns-3 c =
-    let a = c.before.before.before.before.before.before.before.args in
+returns-then-b-eq48 : tie.Need-returns-then-b-eq48
+returns-then-b-eq48 c =
+    let a = c.args in
     c.ends_with.ensures
     ∙ number_zero (drop (a.at + 1) a.line.now) a.at
-    ∙ ap (λ (b : ℕ). value_of is_number decimal (b ∷ drop (a.at + 1) a.line.now) a.at) (sym c.before.if3.true)
-    ∙ sym (first-at a.line.now a.at c.before.before.before.before.before.if1.false)
+    ∙ ap (λ (b : ℕ). value_of is_number decimal (b ∷ drop (a.at + 1) a.line.now) a.at) (sym c.if-b-eq48.true)
+    ∙ sym (first_at a.line.now a.at c.if-line-at.false)
 
-add-digits-from : tie.Need-overflow-add-digits-from
-add-digits-from c = omega arith
+overflow_add-at-2 : tie.Need-overflow_add-at-2
+overflow_add-at-2 c = omega arith
 
 wide-requires : tie.Need-wide-requires
 wide-requires c κs = search rules
 
-sub-digits-from : tie.Need-overflow-sub-digits-from
-sub-digits-from c =
-    let a = c.before.before.before.before.before.before.before.args in
-    omega (arith, digit_bounds (get_or a.line.now a.at 0) (sym c.before.before.before.is_digit.ensures ∙ not-false _ c.before.before.if2.false))
+overflow_sub-wide : tie.Need-overflow_sub-wide
+overflow_sub-wide c =
+    let a = c.args in
+    omega (arith, digit_bounds (get_or a.line.now a.at 0) (sym c.is_digit.ensures ∙ not-false _ c.if-not-is_digit.false-raw))
 
-digits-from-requires : tie.Need-digits-from-requires
-digits-from-requires c κs = omega arith
+digits_from-requires : tie.Need-digits_from-requires
+digits_from-requires c κs = omega arith
 
-returns-4 : tie.Need-returns-4
-returns-4 c =
-    let a = c.before.before.before.before.before.before.before.before.args in
+returns : tie.Need-returns
+returns c =
+    let a = c.args in
     let byte = get_or a.line.now a.at 0 in
     c.digits_from.ensures
-    ∙ ap (λ (x : ℕ). digits_from (x - 48) (drop (a.at + 1) a.line.now) (a.at + 1)) c.before.wide.ensures.0
+    ∙ ap (λ (x : ℕ). digits_from (x - 48) (drop (a.at + 1) a.line.now) (a.at + 1)) c.wide.ensures.0
     ∙ number_more byte (drop (a.at + 1) a.line.now) a.at
-    (sym c.before.before.before.before.is_digit.ensures ∙ not-false _ c.before.before.before.if2.false)
-    (ne_eqb _ _ c.before.before.if3.false) (omega (arith, c.before.wide.ensures))
-    ∙ sym (first-at a.line.now a.at c.before.before.before.before.before.before.if1.false)
+    (sym c.is_digit.ensures ∙ not-false _ c.if-not-is_digit.false-raw)
+    (ne_eqb _ _ c.if-b-eq48.false) (omega (arith, c.wide.ensures))
+    ∙ sym (first_at a.line.now a.at c.if-line-at.false)
 
-pub number-at-spec : {M : Type 1} → statement M
-number-at-spec =
+pub number_at_spec : {M : Type 1} → statement M
+number_at_spec =
     tie.close
     (tie.spec
-    returns
-    shared-slice-read-b
-    is-digit-requires
-    returns-2
-    add-ends-with
-    ends-with-requires
-    returns-3
-    add-digits-from
+    returns-then-line-at
+    bounds-line-at
+    is_digit-requires
+    returns-then-not-is_digit
+    overflow_add-at
+    ends_with-requires
+    returns-then-b-eq48
+    overflow_add-at-2
     wide-requires
-    sub-digits-from
-    digits-from-requires
-    returns-4)
+    overflow_sub-wide
+    digits_from-requires
+    returns)

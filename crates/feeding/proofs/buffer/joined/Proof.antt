@@ -9,19 +9,17 @@ use borrow.Author.Rules.{rules}
 use Rattle.feeding.proofs.buffer.joined.Statement.{statement}
 use Rattle.feeding.proofs.buffer.joined.Tie as tie
 
-append-requires : tie.Need-append-requires
-append-requires c κs = search rules
+append-held-requires : tie.Need-append-held-requires
+append-held-requires c κs = search rules
 
-append-requires-2 : tie.Need-append-requires-2
-append-requires-2 c κs =
-    let start = c.before.before.before.before.before in
-    omega (arith, c.before.append.ensures.1, length-take held_room start.args.first.now, min-le_left held_room (length start.args.first.now))
+append-count-requires : tie.Need-append-count-requires
+append-count-requires c κs =
+    omega (arith, c.append-held.ensures.1, length-take held_room c.args.first.now, min-le_left held_room (length c.args.first.now))
 
 returns : tie.Need-returns
 returns c =
-    let start = c.before.before.before.before.before.before in
-    joined_is start.args.first.now start.args.more.now c.before.before.append.new.0 c.append2.new.0 c.before.before.append.result
-    c.append2.result start.requires c.before.before.append.ensures.0 c.before.before.append.ensures.1 c.append2.ensures.0 c.append2.ensures.1
+    joined_is c.args.first.now c.args.more.now c.append-held.new.bytes c.append-count.new.bytes c.append-held.result
+    c.append-count.result c.requires c.append-held.ensures.0 c.append-held.ensures.1 c.append-count.ensures.0 c.append-count.ensures.1
 
-pub joined-spec : {M : Type 1} → statement M
-joined-spec = tie.close (tie.spec append-requires append-requires-2 returns)
+pub joined_spec : {M : Type 1} → statement M
+joined_spec = tie.close (tie.spec append-held-requires append-count-requires returns)

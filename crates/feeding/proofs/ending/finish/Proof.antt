@@ -20,44 +20,44 @@ use Rattle.feeding.proofs.ending.finish.Statement.{statement}
 use Rattle.feeding.proofs.ending.finish.Tie as tie
 
 -- past the test the replay can go on, and its end is what is printed then
-is-so : (e : tie.Else1) → So (fit e.before.before.args.replay)
-is-so e = sym e.before.is-fit.ensures ∙ not-false _ e.if1.false
+is_so : (e : tie.Else-not-is_fit) → So (fit e.args.replay)
+is_so e = sym e.is_fit.ensures ∙ not-false _ e.if-not-is_fit.false-raw
 
-the_end : (e : tie.Else1) →
-    let r = e.before.before.args.replay in
+the_end : (e : tie.Else-not-is_fit) →
+    let r = e.args.replay in
     finished (last_in (shown r).begun (shown r)) ≡ ending r
 unfolding ending
-the_end e = sym (cond_so _ _ (is-so e))
+the_end e = sym (cond_so _ _ (is_so e))
 
-is-fit-requires : tie.Need-is-fit-requires
-is-fit-requires c κs = search rules
+is_fit-requires : tie.Need-is_fit-requires
+is_fit-requires c κs = search rules
 
-returns : tie.Need-returns
+returns-then-not-is_fit : tie.Need-returns-then-not-is_fit
 unfolding ending_of finishing ending answer_number answer_values
-returns c =
-    let unfit = sym c.before.is-fit.ensures ∙ not-true _ c.if1.true in
+returns-then-not-is_fit c =
+    let unfit = sym c.is_fit.ensures ∙ not-true _ c.if-not-is_fit.true-raw in
     let number = sym {A = ℕ} (cond_not 0 (number_of NotSound) unfit) in
     let none = sym (cond_not _ _ unfit) in
     λ i. record { number = number i; values = length (none i) ∷ []; bytes = sets (replicate 160 0) 0 (none i) }
 
-slice-aggregate-put-ending : tie.Need-slice-aggregate-put-ending
-slice-aggregate-put-ending c = search rules
+slice_bounds-put_ending-end : tie.Need-slice_bounds-put_ending-end
+slice_bounds-put_ending-end c = search rules
 
-put-ending-requires : tie.Need-put-ending-requires
-put-ending-requires c κs = (is-so c.before, omega arith)
+put_ending-length-requires : tie.Need-put_ending-length-requires
+put_ending-length-requires c κs = (is_so c.before, omega arith)
 
-cast-t11 : tie.Need-overflow-cast-t11
-cast-t11 c =
+overflow_cast-result : tie.Need-overflow_cast-result
+overflow_cast-result c =
     let e = c.before.before.before in
-    let r = e.before.before.args.replay in
-    omega (arith, c.before.put-ending.ensures.place, ap length (the_end e), ending_short r)
+    let r = e.args.replay in
+    omega (arith, c.put_ending-length.ensures.place, ap length (the_end e), ending_short r)
 
-returns-2 : tie.Need-returns-2
+returns : tie.Need-returns
 unfolding ending_of finishing answer_number answer_values
-returns-2 c =
+returns c =
     let e = c.before.before.before in
-    let w = c.before.put-ending.ensures in
-    let number = sym {A = ℕ} (cond_so 0 (number_of NotSound) (is-so e)) in
+    let w = c.put_ending-length.ensures in
+    let number = sym {A = ℕ} (cond_so 0 (number_of NotSound) (is_so e)) in
     let count = w.place ∙ zero-add _ ∙ ap length (the_end e) in
     let bytes = w.bytes ∙ ap (sets (replicate 160 0) 0) (the_end e) in
     λ i. record { number = number i; values = count i ∷ []; bytes = bytes i }
@@ -66,9 +66,9 @@ pub finish_spec : {M : Type 1} → statement M
 finish_spec =
     tie.close
     (tie.spec
-    is-fit-requires
-    returns
-    slice-aggregate-put-ending
-    put-ending-requires
-    cast-t11
-    returns-2)
+    is_fit-requires
+    returns-then-not-is_fit
+    slice_bounds-put_ending-end
+    put_ending-length-requires
+    overflow_cast-result
+    returns)

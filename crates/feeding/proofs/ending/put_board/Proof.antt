@@ -14,48 +14,44 @@ use borrow.Author.Rules.{rules}
 use Rattle.feeding.proofs.ending.put_board.Statement.{statement}
 use Rattle.feeding.proofs.ending.put_board.Tie as tie
 
-source-total-requires : tie.Need-source-total-requires
-source-total-requires c κs = search rules
+source_total-claims-requires : tie.Need-source_total-claims-requires
+source_total-claims-requires c κs = search rules
 
-source-total-requires-2 : tie.Need-source-total-requires-2
-source-total-requires-2 c κs = search rules
+source_total-waited-requires : tie.Need-source_total-waited-requires
+source_total-waited-requires c κs = search rules
 
-open-total-requires : tie.Need-open-total-requires
-open-total-requires c κs = search rules
+open_total-ages-requires : tie.Need-open_total-ages-requires
+open_total-ages-requires c κs = search rules
 
 wide-requires : tie.Need-wide-requires
 wide-requires c κs = search rules
 
-put-totals-requires : tie.Need-put-totals-requires
-put-totals-requires c κs = search rules
+put_totals-requires : tie.Need-put_totals-requires
+put_totals-requires c κs = search rules
 
-same_length : tie.Need-same-length
-same_length c = search rules
+shape_of-output : tie.Need-shape_of-output
+shape_of-output c = search rules
 
 returns : tie.Need-returns
 unfolding values_of board_claims board_waited board_open source_claims source_waited open_age is_pending request open_age_in
 returns c =
     let at_wide = c.before.before.before.before in
-    let at-open-total = at_wide.before in
-    let at-source-total2 = at-open-total.before.before.before.before in
-    let at-source-total = at-source-total2.before.before.before in
-    let start = at-source-total.before.before.before.before in
-    let a = start.args in
-    let s = a.t1 in
-    let out' = c.before.before.put-totals.new.1.1.1.1.0 in
-    let values : at_wide.wide.result ∷ at-source-total.source-total.result ∷ at-source-total2.source-total2.result ∷ at-open-total.open-total.result ∷ [] ≡ values_of totals s =
-    λ i. at_wide.wide.ensures.0 i ∷ at-source-total.source-total.ensures i ∷ at-source-total2.source-total2.ensures i ∷ at-open-total.open-total.ensures i ∷ [] in
-    subst (λ (l : List ℕ). Written a.output.now out' a.at c.before.before.put-totals.result (totals_line l)) values
-    (written_put 128 _ a.output.now out' a.at c.before.before.put-totals.result start.requires c.before.before.put-totals.ensures)
+    let a = at_wide.args in
+    let s = a.state in
+    let out' = c.put_totals.new.output in
+    let values : at_wide.wide.result ∷ at_wide.source_total-claims.result ∷ at_wide.source_total-waited.result ∷ at_wide.open_total-ages.result ∷ [] ≡ values_of totals s =
+    λ i. at_wide.wide.ensures.0 i ∷ at_wide.source_total-claims.ensures i ∷ at_wide.source_total-waited.ensures i ∷ at_wide.open_total-ages.ensures i ∷ [] in
+    subst (λ (l : List ℕ). Written a.output.now out' a.at c.put_totals.result (totals_line l)) values
+    (written_put 128 _ a.output.now out' a.at c.put_totals.result at_wide.requires c.put_totals.ensures)
 
-pub put-board-spec : {M : Type 1} → statement M
-put-board-spec =
+pub put_board_spec : {M : Type 1} → statement M
+put_board_spec =
     tie.close
     (tie.spec
-    source-total-requires
-    source-total-requires-2
-    open-total-requires
+    source_total-claims-requires
+    source_total-waited-requires
+    open_total-ages-requires
     wide-requires
-    put-totals-requires
-    same_length
+    put_totals-requires
+    shape_of-output
     returns)

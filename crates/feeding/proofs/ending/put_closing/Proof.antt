@@ -20,68 +20,63 @@ stood : (r : Replaying) (out out' : List ℕ) (at end : ℕ) {p : Place} → r.p
     Written out out' at end (closing (stand_of r.place r.state))
 stood r out out' at end e w = subst (λ (q : Place). Written out out' at end (closing (stand_of q r.state))) (sym e) w
 
-enum_told : tie.Need-enum-told
-enum_told c = search rules
+enum_told-1 : tie.Need-enum_told-1
+enum_told-1 c = search rules
 
-number-of-requires : tie.Need-number-of-requires
-number-of-requires c κs = search rules
+number_of-requires : tie.Need-number_of-requires
+number_of-requires c κs = search rules
 
-put-said-requires : tie.Need-put-said-requires
-put-said-requires c κs = search rules
+put_said-requires : tie.Need-put_said-requires
+put_said-requires c κs = search rules
 
-enum-told-2 : tie.Need-enum-told-2
-enum-told-2 c = search rules
+enum_told-in-On : tie.Need-enum_told-in-On
+enum_told-in-On c = search rules
 
-put-board-requires : tie.Need-put-board-requires
-put-board-requires c κs = search rules
+put_board-requires : tie.Need-put_board-requires
+put_board-requires c κs = search rules
 
-enum-told-3 : tie.Need-enum-told-3
-enum-told-3 c = search rules
+enum_told-in-Ended : tie.Need-enum_told-in-Ended
+enum_told-in-Ended c = search rules
 
-same_length : tie.Need-same-length
-same_length c = search rules
+shape_of-output-in-Before : tie.Need-shape_of-output-in-Before
+shape_of-output-in-Before c = search rules
 
-returns : tie.Need-returns
+returns-in-Before : tie.Need-returns-in-Before
 unfolding said_bytes stand_of closing
-returns c =
-    let said = c.before.before in
-    let s = said.before.before.before.before.before.before in
-    let a = s.args in
-    let room : a.at + 20 ≤ length a.output.now = omega (arith, s.requires) in
-    let out = written_put 20 _ a.output.now said.put-said.new.1.0 a.at said.put-said.result room said.put-said.ensures.0 in
-    stood a.replay a.output.now said.put-said.new.1.0 a.at said.put-said.result said.before.before.before.enum_told.given.1
-    (subst (λ (n : ℕ). Written a.output.now said.put-said.new.1.0 a.at said.put-said.result (refused_line n)) said.before.before.number_of_lem.ensures out)
+returns-in-Before c =
+    let a = c.args in
+    let room : a.at + 20 ≤ length a.output.now = omega (arith, c.requires) in
+    let out = written_put 20 _ a.output.now c.put_said.new.output a.at c.put_said.result room c.put_said.ensures.0 in
+    stood a.replay a.output.now c.put_said.new.output a.at c.put_said.result c.in-Before.is
+    (subst (λ (n : ℕ). Written a.output.now c.put_said.new.output a.at c.put_said.result (refused_line n)) c.number_of.ensures out)
 
-same-length-2 : tie.Need-same-length-2
-same-length-2 c = search rules
+shape_of-output-in-On : tie.Need-shape_of-output-in-On
+shape_of-output-in-On c = search rules
 
-returns-2 : tie.Need-returns-2
+returns-in-On : tie.Need-returns-in-On
 unfolding stand_of closing
-returns-2 c =
-    let at-enum-told2 = c.before.before.before.before in
-    let start = at-enum-told2.before.before.before in
-    stood start.args.replay start.args.output.now c.before.before.put-board.new.1.0 start.args.at c.before.before.put-board.result
-    at-enum-told2.enum-told2.given.1 c.before.before.put-board.ensures
+returns-in-On c =
+    stood c.args.replay c.args.output.now c.put_board.new.output c.args.at c.put_board.result
+    c.in-On.is c.put_board.ensures
 
-returns-3 : tie.Need-returns-3
+returns-in-Ended : tie.Need-returns-in-Ended
 unfolding stand_of closing
-returns-3 c =
-    let start = c.before.before.before in
-    stood start.args.replay start.args.output.now start.args.output.now start.args.at start.args.at c.enum-told3.given.1
-    (record { bytes = refl; place = sym (add-zero start.args.at) })
+returns-in-Ended c =
+    stood c.args.replay c.args.output.now c.args.output.now c.args.at c.args.at c.in-Ended.is
+    (record { bytes = refl; place = sym (add-zero c.args.at) })
 
-pub put-closing-spec : {M : Type 1} → statement M
-put-closing-spec =
+pub put_closing_spec : {M : Type 1} → statement M
+put_closing_spec =
     tie.close
     (tie.spec
-    enum_told
-    number-of-requires
-    put-said-requires
-    enum-told-2
-    put-board-requires
-    enum-told-3
-    same_length
-    returns
-    same-length-2
-    returns-2
-    returns-3)
+    enum_told-1
+    number_of-requires
+    put_said-requires
+    enum_told-in-On
+    put_board-requires
+    enum_told-in-Ended
+    shape_of-output-in-Before
+    returns-in-Before
+    shape_of-output-in-On
+    returns-in-On
+    returns-in-Ended)

@@ -7,17 +7,17 @@ use Rattle.replaying.specs.Replay.{kind_byte}
 use Rattle.feeding.proofs.opening.kind_byte.Statement.{statement}
 use Rattle.feeding.proofs.opening.kind_byte.Tie as tie
 
+returns-then-letter-eq108 : tie.Need-returns-then-letter-eq108
+unfolding kind_byte
+returns-then-letter-eq108 c = sym (cond_so _ _ (eq-eqb c.args.letter 108 c.if-letter-eq108.true))
+
+returns-then-letter-eq101 : tie.Need-returns-then-letter-eq101
+unfolding kind_byte
+returns-then-letter-eq101 c = sym (cond_not _ _ (ne_eqb c.args.letter 108 c.if-letter-eq108.false) ∙ cond_so _ _ (eq-eqb c.args.letter 101 c.if-letter-eq101.true))
+
 returns : tie.Need-returns
 unfolding kind_byte
-returns c = sym (cond_so _ _ (eq-eqb c.before.args.letter 108 c.if1.true))
+returns c = sym (cond_not _ _ (ne_eqb c.args.letter 108 c.if-letter-eq108.false) ∙ cond_not _ _ (ne_eqb c.args.letter 101 c.if-letter-eq101.false))
 
-returns-2 : tie.Need-returns-2
-unfolding kind_byte
-returns-2 c = sym (cond_not _ _ (ne_eqb c.before.before.args.letter 108 c.before.if1.false) ∙ cond_so _ _ (eq-eqb c.before.before.args.letter 101 c.if2.true))
-
-returns-3 : tie.Need-returns-3
-unfolding kind_byte
-returns-3 c = sym (cond_not _ _ (ne_eqb c.before.before.args.letter 108 c.before.if1.false) ∙ cond_not _ _ (ne_eqb c.before.before.args.letter 101 c.if2.false))
-
-pub kind-byte-spec : {M : Type 1} → statement M
-kind-byte-spec = tie.close (tie.spec returns returns-2 returns-3)
+pub kind_byte_spec : {M : Type 1} → statement M
+kind_byte_spec = tie.close (tie.spec returns-then-letter-eq108 returns-then-letter-eq101 returns)

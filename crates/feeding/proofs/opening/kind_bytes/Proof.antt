@@ -12,70 +12,67 @@ use Rattle.replaying.specs.Replay.{kind_byte, kind_bytes}
 use Rattle.feeding.proofs.opening.kind_bytes.Statement.{statement}
 use Rattle.feeding.proofs.opening.kind_bytes.Tie as tie
 
-abbrev invariant-loop : tie.invariant-loop
-invariant-loop line from bytes₀ i₀ count₀ bytes i count = (i ≡ from + count) × (take count bytes ≡ kind_bytes (take count (drop from line))) × (count ≤ held_room) × (length bytes ≡ held_room)
+abbrev invariant-loop-i : tie.invariant-loop-i
+invariant-loop-i line from bytes₀ i₀ count₀ bytes i count = (i ≡ from + count) × (take count bytes ≡ kind_bytes (take count (drop from line))) × (count ≤ held_room) × (length bytes ≡ held_room)
 
-abbrev decreases-loop : tie.decreases-loop
-decreases-loop line from bytes₀ i₀ count₀ bytes i count = length line - i
+abbrev decreases-loop-i : tie.decreases-loop-i
+decreases-loop-i line from bytes₀ i₀ count₀ bytes i count = length line - i
 
-loop-holds : tie.Need-loop-init invariant-loop decreases-loop
+loop-i-init : tie.Need-loop-i-init invariant-loop-i decreases-loop-i
 unfolding kind_bytes
-loop-holds c = (omega arith, refl, omega arith, length-replicate {A = ℕ} held_room 0)
+loop-i-init c = (omega arith, refl, omega arith, length-replicate {A = ℕ} held_room 0)
 
-shared-slice-read-kind-byte : tie.Need-shared-slice-read-kind-byte invariant-loop decreases-loop
-shared-slice-read-kind-byte c = omega arith
+bounds-line-i : tie.Need-bounds-line-i invariant-loop-i decreases-loop-i
+bounds-line-i c = omega arith
 
-kind-byte-requires : tie.Need-kind-byte-requires invariant-loop decreases-loop
-kind-byte-requires c κs = search rules
+kind_byte-requires : tie.Need-kind_byte-requires invariant-loop-i decreases-loop-i
+kind_byte-requires c κs = search rules
 
-array-write-bytes : tie.Need-array-write-bytes invariant-loop decreases-loop
-array-write-bytes c = omega arith
+bounds-bytes-count : tie.Need-bounds-bytes-count invariant-loop-i decreases-loop-i
+bounds-bytes-count c = omega arith
 
-add-count : tie.Need-overflow-add-count invariant-loop decreases-loop
-add-count c = omega arith
+overflow_add-count : tie.Need-overflow_add-count invariant-loop-i decreases-loop-i
+overflow_add-count c = omega arith
 
-add-i : tie.Need-overflow-add-i invariant-loop decreases-loop
-add-i c = omega arith
+overflow_add-i : tie.Need-overflow_add-i invariant-loop-i decreases-loop-i
+overflow_add-i c = omega arith
 
-loop-less : tie.Need-loop-smaller invariant-loop decreases-loop
-loop-less c = omega arith
+loop-i-smaller : tie.Need-loop-i-smaller invariant-loop-i decreases-loop-i
+loop-i-smaller c = omega arith
 
-loop-again : tie.Need-loop-preserved invariant-loop decreases-loop
-loop-again c =
-    let at-loop = c.before.before.before in
-    let start = at-loop.before.before in
-    let l = at-loop.loop in
-    let a = start.args in
-    let inside : l.count < length (drop a.from a.line.now) = omega (arith, l.invariant.0, length-drop a.from a.line.now, c.before.before.loop-test.true) in
-    let byte = c.kind-byte.ensures ∙ ap kind_byte (ap (λ (k : ℕ). get_or a.line.now k 0) l.invariant.0 ∙ sym (get_or-drop a.from a.line.now l.count 0)) in (
+loop-i-preserved : tie.Need-loop-i-preserved invariant-loop-i decreases-loop-i
+loop-i-preserved c =
+    let l = c.loop-i in
+    let a = c.args in
+    let inside : l.count < length (drop a.from a.line.now) = omega (arith, l.invariant.0, length-drop a.from a.line.now, c.loop-i-test.true) in
+    let byte = c.kind_byte.ensures ∙ ap kind_byte (ap (λ (k : ℕ). get_or a.line.now k 0) l.invariant.0 ∙ sym (get_or-drop a.from a.line.now l.count 0)) in (
       omega arith,
-      kinds_more (drop a.from a.line.now) l.bytes l.count c.kind-byte.result inside (omega (arith, l.invariant.3))
+      kinds_more (drop a.from a.line.now) l.bytes l.count c.kind_byte.result inside (omega (arith, l.invariant.3))
           l.invariant.1 byte,
       omega arith,
-      length-set l.bytes l.count c.kind-byte.result ∙ l.invariant.3,
+      length-set l.bytes l.count c.kind_byte.result ∙ l.invariant.3,
     )
 
-returns : tie.Need-returns invariant-loop decreases-loop
+returns : tie.Need-returns invariant-loop-i decreases-loop-i
 returns c =
-    let start = c.before.before.before in
-    let l = c.before.loop in
-    let a = start.args in
+    let l = c.loop-i in
+    let a = c.args in
     let all : take l.count (drop a.from a.line.now) ≡ drop a.from a.line.now = take_all l.count (drop a.from a.line.now)
     (omega (arith, l.invariant.0, length-drop a.from a.line.now)) in
     (l.invariant.1 ∙ ap kind_bytes all, l.invariant.2)
 
-pub kind-bytes-spec : {M : Type 1} → statement M
-kind-bytes-spec =
+pub kind_bytes_spec : {M : Type 1} → statement M
+kind_bytes_spec =
     tie.close
     (tie.spec
-    invariant-loop
-    decreases-loop
-    loop-holds
-    shared-slice-read-kind-byte
-    kind-byte-requires
-    array-write-bytes
-    add-count
-    add-i
-    loop-less
-    loop-again
+    invariant-loop-i
+    decreases-loop-i
+    loop-i-init
+    bounds-line-i
+    kind_byte-requires
+    bounds-bytes-count
+    overflow_add-count
+    overflow_add-i
+    loop-i-smaller
+    loop-i-preserved
     returns)

@@ -17,65 +17,61 @@ use Rattle.feeding.proofs.opening.open_board.Statement.{statement}
 use Rattle.feeding.proofs.opening.open_board.Tie as tie
 
 -- the first line by the opening that the grammar found
-as-found : (bytes : List ℕ) (found k : Opening) → found ≡ opening_of (command_of bytes) → found ≡ k →
+as_found : (bytes : List ℕ) (found k : Opening) → found ≡ opening_of (command_of bytes) → found ≡ k →
     first_line k bytes ≡ first_line (opening_of (command_of bytes)) bytes
-as-found bytes found k e f = ap (λ (o : Opening). first_line o bytes) (sym f ∙ e)
+as_found bytes found k e f = ap (λ (o : Opening). first_line o bytes) (sym f ∙ e)
 
-parse-opening-requires : tie.Need-parse-opening-requires
-parse-opening-requires c κs = search rules
+parse_opening-opening-requires : tie.Need-parse_opening-opening-requires
+parse_opening-opening-requires c κs = search rules
 
-enum-known-opening : tie.Need-enum-known-opening
-enum-known-opening c = search rules
+enum_known-opening : tie.Need-enum_known-opening
+enum_known-opening c = search rules
 
-kind-bytes-requires : tie.Need-kind-bytes-requires
-kind-bytes-requires c κs = search rules
+kind_bytes-kinds-requires : tie.Need-kind_bytes-kinds-requires
+kind_bytes-kinds-requires c κs = search rules
 
-array-share-prefix-bytes : tie.Need-array-share-prefix-bytes
-array-share-prefix-bytes c =
-    let room : length c.before.kind-bytes.result.bytes ≡ held_room = search rules in
-    omega (arith, room, c.before.kind-bytes.ensures.1)
+slice_bounds-bytes-end : tie.Need-slice_bounds-bytes-end
+slice_bounds-bytes-end c =
+    let room : length c.kind_bytes-kinds.result.bytes ≡ held_room = search rules in
+    omega (arith, room, c.kind_bytes-kinds.ensures.1)
 
-slice-aggregate-make : tie.Need-slice-aggregate-make
-slice-aggregate-make c =
-    let kinds = c.before.before.kind-bytes in
+slice_bounds-make-end : tie.Need-slice_bounds-make-end
+slice_bounds-make-end c =
+    let kinds = c.kind_bytes-kinds in
     let room : length kinds.result.bytes ≡ held_room = search rules in
     sym (length-take-le kinds.result.count kinds.result.bytes (omega (arith, room, kinds.ensures.1)))
 
 make-requires : tie.Need-make-requires
 make-requires c κs = search rules
 
-enum_told : tie.Need-enum-told
-enum_told c = search rules
+enum_told-1 : tie.Need-enum_told-1
+enum_told-1 c = search rules
 
 zero-requires : tie.Need-zero-requires
 zero-requires c κs = search rules
 
-returns : tie.Need-returns
+returns-in-Board : tie.Need-returns-in-Board
 unfolding first_line
-returns c =
-    let o = c.before.before.before.before.before in
-    let board = o.opening.given in
-    let p = o.before.before in
-    ap (λ (k : Outcome). started k) (c.make.ensures ∙ ap (make board.0.0 board.0.1.0 board.0.1.1.0) c.before.before.before.kind-bytes.ensures.0)
-    ∙ as-found p.before.before.args.line.now p.parse-opening.result _ p.parse-opening.ensures board.1
+returns-in-Board c =
+    ap (λ (k : Outcome). started k) (c.make.ensures ∙ ap (make c.in-Board.n c.in-Board.m c.in-Board.b) c.kind_bytes-kinds.ensures.0)
+    ∙ as_found c.args.line.now c.parse_opening-opening.result _ c.parse_opening-opening.ensures c.in-Board.is
 
-returns-2 : tie.Need-returns-2
+returns-in-Unreadable : tie.Need-returns-in-Unreadable
 unfolding first_line started bad_start answered answer_number
-returns-2 c =
-    let p = c.before.before.before in
-    as-found p.before.before.args.line.now p.parse-opening.result _ p.parse-opening.ensures c.before.enum_told.given.1
+returns-in-Unreadable c =
+    as_found c.args.line.now c.parse_opening-opening.result _ c.parse_opening-opening.ensures c.in-Unreadable.is
 
-pub open-board-spec : {M : Type 1} → statement M
-open-board-spec =
+pub open_board_spec : {M : Type 1} → statement M
+open_board_spec =
     tie.close
     (tie.spec
-    parse-opening-requires
-    enum-known-opening
-    kind-bytes-requires
-    array-share-prefix-bytes
-    slice-aggregate-make
+    parse_opening-opening-requires
+    enum_known-opening
+    kind_bytes-kinds-requires
+    slice_bounds-bytes-end
+    slice_bounds-make-end
     make-requires
-    enum_told
+    enum_told-1
     zero-requires
-    returns
-    returns-2)
+    returns-in-Board
+    returns-in-Unreadable)

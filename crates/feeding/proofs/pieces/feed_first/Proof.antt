@@ -23,8 +23,8 @@ use borrow.Author.Rules.{rules}
 use Rattle.feeding.proofs.pieces.feed_first.Statement.{statement}
 use Rattle.feeding.proofs.pieces.feed_first.Tie as tie
 
-line-end-requires : tie.Need-line-end-requires
-line-end-requires c κs = search rules
+line_end-end-requires : tie.Need-line_end-end-requires
+line_end-end-requires c κs = search rules
 
 zero-requires : tie.Need-zero-requires
 zero-requires c κs = search rules
@@ -32,88 +32,71 @@ zero-requires c κs = search rules
 standing-requires : tie.Need-standing-requires
 standing-requires c κs = search rules
 
-returns : tie.Need-returns
+returns-then-end-input : tie.Need-returns-then-end-input
 unfolding paused
-returns c =
-    let at-line-end = c.before.before.before in
-    let start = at-line-end.before.before.before.before in
-    let a = start.args in
+returns-then-end-input c =
+    let a = c.args in
     let l = a.begun.now ++ a.input.now in
-    feeds_begun before a.begun.now a.input.now a.output.now c.standing.result (sym (at-line-end.line-end.ensures ∙ zero-add _) ∙ c.before.before.if1.true)
-    (c.standing.ensures ∙ (λ i. record { replay = record { place = Before; state = c.before.zero.ensures i; begun = padded l; count = length (take held_room l) }; written = 0 }))
+    feeds_begun before a.begun.now a.input.now a.output.now c.standing.result (sym (c.line_end-end.ensures ∙ zero-add _) ∙ c.if-end-input.true)
+    (c.standing.ensures ∙ (λ i. record { replay = record { place = Before; state = c.zero.ensures i; begun = padded l; count = length (take held_room l) }; written = 0 }))
 
-slice-aggregate-joined : tie.Need-slice-aggregate-joined
-slice-aggregate-joined c =
-    let start = c.before.before.before.before.before.before in
-    sym (length-take-le c.before.before.line-end.result start.args.input.now (omega (arith, c.before.before.line-end.ensures, line_most start.args.input.now)))
+slice_bounds-joined-end : tie.Need-slice_bounds-joined-end
+slice_bounds-joined-end c =
+    sym (length-take-le c.line_end-end.result c.args.input.now (omega (arith, c.line_end-end.ensures, line_most c.args.input.now)))
 
-joined-requires : tie.Need-joined-requires
-joined-requires c κs = search rules
+joined-line-requires : tie.Need-joined-line-requires
+joined-line-requires c κs = search rules
 
-array-share-prefix-bytes : tie.Need-array-share-prefix-bytes
-array-share-prefix-bytes c =
-    let room = joined_room _ c.before.joined.result c.before.joined.ensures in
+slice_bounds-bytes-end : tie.Need-slice_bounds-bytes-end
+slice_bounds-bytes-end c =
+    let room = joined_room _ c.joined-line.result c.joined-line.ensures in
     omega (arith, room.0, room.1)
 
-slice-aggregate-open-board : tie.Need-slice-aggregate-open-board
-slice-aggregate-open-board c =
-    let room = joined_room _ c.before.before.joined.result c.before.before.joined.ensures in
-    sym (length-take-le c.before.before.joined.result.count c.before.before.joined.result.bytes (omega (arith, room.0, room.1)))
+slice_bounds-open_board-end : tie.Need-slice_bounds-open_board-end
+slice_bounds-open_board-end c =
+    let room = joined_room _ c.joined-line.result c.joined-line.ensures in
+    sym (length-take-le c.joined-line.result.count c.joined-line.result.bytes (omega (arith, room.0, room.1)))
 
-open-board-requires : tie.Need-open-board-requires
-open-board-requires c κs =
-    let room = joined_room _ c.before.before.joined.result c.before.before.joined.ensures in
+open_board-made-requires : tie.Need-open_board-made-requires
+open_board-made-requires c κs =
+    let room = joined_room _ c.joined-line.result c.joined-line.ensures in
     omega (
       arith,
       room.0,
-      length-take c.before.before.joined.result.count c.before.before.joined.result.bytes,
+      length-take c.joined-line.result.count c.joined-line.result.bytes,
       min-le_left
-          c.before.before.joined.result.count (length c.before.before.joined.result.bytes),
+          c.joined-line.result.count (length c.joined-line.result.bytes),
     )
 
-enum_told : tie.Need-enum-told
-enum_told c = search rules
+enum_told-1 : tie.Need-enum_told-1
+enum_told-1 c = search rules
 
-add-from : tie.Need-overflow-add-from
-add-from c =
-    let at-if1 = c.before.before.before.before.before.before.before in
-    let at-line-end = at-if1.before in
-    let start = at-line-end.before.before.before.before in
-    omega (arith, at-line-end.line-end.ensures, line_most start.args.input.now, at-if1.if1.false, start.well-formed.1.0)
+overflow_add-from : tie.Need-overflow_add-from
+overflow_add-from c =
+    omega (arith, c.line_end-end.ensures, line_most c.args.input.now, c.if-end-input.false, c.well_formed.1.0)
 
-sub-feed-lines : tie.Need-overflow-sub-feed-lines
-sub-feed-lines c =
-    let at-if1 = c.before.before.before.before.before.before.before.before in
-    let at-line-end = at-if1.before in
-    let start = at-line-end.before.before.before.before in
-    omega (arith, at-line-end.line-end.ensures, line_most start.args.input.now, at-if1.if1.false)
+slice_bounds-feed_lines-count : tie.Need-slice_bounds-feed_lines-count
+slice_bounds-feed_lines-count c =
+    omega (arith, c.line_end-end.ensures, line_most c.args.input.now, c.if-end-input.false)
 
-part-feed-lines-start : tie.Need-slice-bounds-feed-lines-start
-part-feed-lines-start c =
-    let at-if1 = c.before.before.before.before.before.before.before.before in
-    let at-line-end = at-if1.before in
-    let start = at-line-end.before.before.before.before in
-    omega (arith, at-line-end.line-end.ensures, line_most start.args.input.now, at-if1.if1.false)
+slice_bounds-feed_lines-start : tie.Need-slice_bounds-feed_lines-start
+slice_bounds-feed_lines-start c = slice_bounds-feed_lines-count c
 
-part-feed-lines-end : tie.Need-slice-bounds-feed-lines-end
-part-feed-lines-end c = search rules
+slice_bounds-feed_lines-end : tie.Need-slice_bounds-feed_lines-end
+slice_bounds-feed_lines-end c = search rules
 
-feed-lines-requires : tie.Need-feed-lines-requires
-feed-lines-requires c κs =
+feed_lines-requires : tie.Need-feed_lines-requires
+feed_lines-requires c κs =
     let at-enum-told = c.before.before.before in
-    let at-open-board = at-enum-told.before.before in
-    let at_joined = at-open-board.before.before.before in
-    let at-line-end = at_joined.before.before.before in
-    let start = at-line-end.before.before.before.before in
-    let input = start.args.input.now in
-    let end = at-line-end.line-end.result in
+    let input = at-enum-told.args.input.now in
+    let end = at-enum-told.line_end-end.result in
     let rest = take (length input - (end + 1)) (drop (end + 1) input) in (
-      made_is_sound (start.args.begun.now ++ take at-line-end.line-end.result start.args.input.now) _ at-open-board.open-board.result
-          (joined_cut _ at_joined.joined.result at_joined.joined.ensures) at-open-board.open-board.ensures at-enum-told.enum_told.given.0.0
-          at-enum-told.enum_told.given.1,
+      made_is_sound (at-enum-told.args.begun.now ++ take at-enum-told.line_end-end.result at-enum-told.args.input.now) _ at-enum-told.open_board-made.result
+          (joined_cut _ at-enum-told.joined-line.result at-enum-told.joined-line.ensures) at-enum-told.open_board-made.ensures at-enum-told.in-Value.field-0
+          at-enum-told.in-Value.is,
       omega (
         arith,
-        start.requires.1,
+        at-enum-told.requires.1,
         feeds_most rest,
         length-take (length input - (end + 1)) (drop (end + 1) input),
         min-le_left (length input - (end + 1))
@@ -121,86 +104,78 @@ feed-lines-requires c κs =
       ),
     )
 
-enum-known-answer : tie.Need-enum-known-answer
-enum-known-answer c = search rules
+enum_known-answer : tie.Need-enum_known-answer
+enum_known-answer c = search rules
 
-number-of-requires : tie.Need-number-of-requires
-number-of-requires c κs = search rules
+number_of-requires : tie.Need-number_of-requires
+number_of-requires c κs = search rules
 
-put-said-requires : tie.Need-put-said-requires
-put-said-requires c κs = search rules
+put_said-requires : tie.Need-put_said-requires
+put_said-requires c κs = search rules
 
-at-end-requires : tie.Need-at-end-requires
-at-end-requires c κs = search rules
+at_end-requires : tie.Need-at_end-requires
+at_end-requires c κs = search rules
 
-same_length : tie.Need-same-length
-same_length c = search rules
+shape_of-output-in-Value : tie.Need-shape_of-output-in-Value
+shape_of-output-in-Value c = search rules
 
-returns-2 : tie.Need-returns-2
-returns-2 c =
+returns-in-Value : tie.Need-returns-in-Value
+returns-in-Value c =
     let at-enum-told = c.before.before.before.before.before.before in
-    let at-open-board = at-enum-told.before.before in
-    let at_joined = at-open-board.before.before.before in
-    let at-if1 = at_joined.before.before in
-    let at-line-end = at-if1.before in
-    let start = at-line-end.before.before.before.before in
-    feeds_made start.args.begun.now start.args.input.now start.args.output.now at-line-end.line-end.result at-open-board.open-board.result
-    c.before.before.feed-lines.result at-line-end.line-end.ensures at-if1.if1.false c.before.before.feed-lines.new.1.1.0
-    (told_made (start.args.begun.now ++ take at-line-end.line-end.result start.args.input.now) _ at-open-board.open-board.result
-    (joined_cut _ at_joined.joined.result at_joined.joined.ensures) at-open-board.open-board.ensures at-enum-told.enum_told.given.0.0
-    at-enum-told.enum_told.given.1)
-    c.before.before.feed-lines.ensures.feeds
+    let at-open-board = at-enum-told.before in
+    feeds_made at-open-board.args.begun.now at-open-board.args.input.now at-open-board.args.output.now at-open-board.line_end-end.result at-open-board.open_board-made.result
+    c.feed_lines.result at-open-board.line_end-end.ensures at-open-board.if-end-input.false c.feed_lines.new.output
+    (told_made (at-open-board.args.begun.now ++ take at-open-board.line_end-end.result at-open-board.args.input.now) _ at-open-board.open_board-made.result
+    (joined_cut _ at-open-board.joined-line.result at-open-board.joined-line.ensures) at-open-board.open_board-made.ensures at-enum-told.in-Value.field-0
+    at-enum-told.in-Value.is)
+    c.feed_lines.ensures.feeds
 
-same-length-2 : tie.Need-same-length-2
-same-length-2 c = search rules
+shape_of-output-in-Refused : tie.Need-shape_of-output-in-Refused
+shape_of-output-in-Refused c = search rules
 
-returns-3 : tie.Need-returns-3
+returns-in-Refused : tie.Need-returns-in-Refused
 unfolding said_bytes
-returns-3 c =
+returns-in-Refused c =
     let at-put-said = c.before.before.before in
     let at-number-of = at-put-said.before.before in
-    let at-answer = at-number-of.before.before in
-    let at-open-board = at-answer.before.before in
-    let at_joined = at-open-board.before.before.before in
-    let at-if1 = at_joined.before.before in
-    let at-line-end = at-if1.before in
-    let start = at-line-end.before.before.before.before in
-    let a = start.args in
-    let why = at-answer.answer.given.0.0 in
-    let enough : 0 + 20 ≤ length a.output.now = omega (arith, start.requires.1, at-line-end.line-end.ensures, line_most start.args.input.now, at-if1.if1.false) in
-    let said = written_put 20 (said_bytes (Refused at-number-of.number_of_lem.result)) a.output.now at-put-said.put-said.new.1.0 0
-    at-put-said.put-said.result enough at-put-said.put-said.ensures.0 in
-    feeds_unmade a.begun.now a.input.now a.output.now at-line-end.line-end.result at-open-board.open-board.result c.at-end.result
-    at-line-end.line-end.ensures at-if1.if1.false at-put-said.put-said.new.1.0 at-put-said.put-said.result (number_of why)
-    (told_unmade (start.args.begun.now ++ take at-line-end.line-end.result start.args.input.now) _ at-open-board.open-board.result
-    (joined_cut _ at_joined.joined.result at_joined.joined.ensures) at-open-board.open-board.ensures why at-answer.answer.given.1)
-    (subst (λ (k : ℕ). Written a.output.now at-put-said.put-said.new.1.0 0 at-put-said.put-said.result (refused_line k)) at-number-of.number_of_lem.ensures said)
-    (omega (arith, at-put-said.put-said.ensures.1)) c.at-end.ensures
+    let at-answer = at-number-of.before in
+    let at-open-board = at-answer.before in
+    let a = at-open-board.args in
+    let why = at-answer.in-Refused.why in
+    let enough : 0 + 20 ≤ length a.output.now = omega (arith, at-open-board.requires.1, at-open-board.line_end-end.ensures, line_most at-open-board.args.input.now, at-open-board.if-end-input.false) in
+    let said = written_put 20 (said_bytes (Refused at-number-of.number_of.result)) a.output.now at-put-said.put_said.new.output 0
+    at-put-said.put_said.result enough at-put-said.put_said.ensures.0 in
+    feeds_unmade a.begun.now a.input.now a.output.now at-open-board.line_end-end.result at-open-board.open_board-made.result c.at_end.result
+    at-open-board.line_end-end.ensures at-open-board.if-end-input.false at-put-said.put_said.new.output at-put-said.put_said.result (number_of why)
+    (told_unmade (at-open-board.args.begun.now ++ take at-open-board.line_end-end.result at-open-board.args.input.now) _ at-open-board.open_board-made.result
+    (joined_cut _ at-open-board.joined-line.result at-open-board.joined-line.ensures) at-open-board.open_board-made.ensures why at-answer.in-Refused.is)
+    (subst (λ (k : ℕ). Written a.output.now at-put-said.put_said.new.output 0 at-put-said.put_said.result (refused_line k)) at-number-of.number_of.ensures said)
+    (omega (arith, at-put-said.put_said.ensures.1)) c.at_end.ensures
 
-pub feed-first-spec : {M : Type 1} → statement M
-feed-first-spec =
+pub feed_first_spec : {M : Type 1} → statement M
+feed_first_spec =
     tie.close
     (tie.spec
-    line-end-requires
+    line_end-end-requires
     zero-requires
     standing-requires
-    returns
-    slice-aggregate-joined
-    joined-requires
-    array-share-prefix-bytes
-    slice-aggregate-open-board
-    open-board-requires
-    enum_told
-    add-from
-    sub-feed-lines
-    part-feed-lines-start
-    part-feed-lines-end
-    feed-lines-requires
-    enum-known-answer
-    number-of-requires
-    put-said-requires
-    at-end-requires
-    same_length
-    returns-2
-    same-length-2
-    returns-3)
+    returns-then-end-input
+    slice_bounds-joined-end
+    joined-line-requires
+    slice_bounds-bytes-end
+    slice_bounds-open_board-end
+    open_board-made-requires
+    enum_told-1
+    overflow_add-from
+    slice_bounds-feed_lines-count
+    slice_bounds-feed_lines-start
+    slice_bounds-feed_lines-end
+    feed_lines-requires
+    enum_known-answer
+    number_of-requires
+    put_said-requires
+    at_end-requires
+    shape_of-output-in-Value
+    returns-in-Value
+    shape_of-output-in-Refused
+    returns-in-Refused)

@@ -18,84 +18,74 @@ use borrow.Author.Rules.{rules}
 use Rattle.feeding.proofs.pieces.is_fit.Statement.{statement}
 use Rattle.feeding.proofs.pieces.is_fit.Tie as tie
 
-begun-room : (c : tie.Start) → length c.args.replay.begun ≡ held_room
-begun-room c = search rules
+begun_room : (c : tie.Start) → length c.args.replay.begun ≡ held_room
+begun_room c = search rules
 
-held-length : (c : tie.Start) → c.args.replay.count ≤ held_room → length (take c.args.replay.count c.args.replay.begun) ≡ c.args.replay.count
-held-length c h = length-take-le c.args.replay.count c.args.replay.begun (omega (arith, begun-room c, h))
+held_length : (c : tie.Start) → c.args.replay.count ≤ held_room → length (take c.args.replay.count c.args.replay.begun) ≡ c.args.replay.count
+held_length c h = length-take-le c.args.replay.count c.args.replay.begun (omega (arith, begun_room c, h))
 
-returns : tie.Need-returns
+returns-then-count-gt-HELD_ROOM : tie.Need-returns-then-count-gt-HELD_ROOM
 unfolding fit all_of board_sound
-returns c = sym (and_fails_left _ (lt-leb _ _ c.if1.true))
+returns-then-count-gt-HELD_ROOM c = sym (and_fails_left _ (lt-leb _ _ c.if-count-gt-HELD_ROOM.true))
 
-array-share-prefix-begun : tie.Need-array-share-prefix-begun
-array-share-prefix-begun c = omega (arith, begun-room c.before.before)
+slice_bounds-begun-end : tie.Need-slice_bounds-begun-end
+slice_bounds-begun-end c = omega (arith, begun_room c.before.before)
 
-slice-aggregate-line-end : tie.Need-slice-aggregate-line-end
-slice-aggregate-line-end c = sym (held-length c.before.before.before c.before.if1.false)
+slice_bounds-line_end-end : tie.Need-slice_bounds-line_end-end
+slice_bounds-line_end-end c = sym (held_length c.before.before.before c.if-count-gt-HELD_ROOM.false)
 
-line-end-requires : tie.Need-line-end-requires
-line-end-requires c κs = search rules
+line_end-requires : tie.Need-line_end-requires
+line_end-requires c κs = search rules
 
-returns-2 : tie.Need-returns-2
+returns-then-line_end-count : tie.Need-returns-then-line_end-count
 unfolding fit all_of board_sound
-returns-2 c =
-    let r = c.before.before.before.before.before.args.replay in
-    sym (and_fails_right (leb r.count held_room) (and_fails_left _ (ne_eqb _ _ (λ e. c.if2.true (c.before.line-end.ensures ∙ zero-add _ ∙ e)))))
+returns-then-line_end-count c =
+    let r = c.args.replay in
+    sym (and_fails_right (leb r.count held_room) (and_fails_left _ (ne_eqb _ _ (λ e. c.if-line_end-count.true (c.line_end.ensures ∙ zero-add _ ∙ e)))))
 
-enum_told : tie.Need-enum-told
-enum_told c = search rules
+enum_told-1 : tie.Need-enum_told-1
+enum_told-1 c = search rules
 
-enum-told-2 : tie.Need-enum-told-2
-enum-told-2 c = search rules
+enum_told-in-On : tie.Need-enum_told-in-On
+enum_told-in-On c = search rules
 
-is-sound-requires : tie.Need-is-sound-requires
-is-sound-requires c κs = search rules
+is_sound-requires : tie.Need-is_sound-requires
+is_sound-requires c κs = search rules
 
-enum-told-3 : tie.Need-enum-told-3
-enum-told-3 c = search rules
+enum_told-in-Ended : tie.Need-enum_told-in-Ended
+enum_told-in-Ended c = search rules
 
-returns-3 : tie.Need-returns-3
+returns-in-Before : tie.Need-returns-in-Before
 unfolding board_sound
-returns-3 c =
-    let at-line-end = c.before.before.before in
-    let at-if1 = at-line-end.before.before in
-    let start = at-if1.before.before in
-    sym (fit_board start.args.replay at-if1.if1.false (sym (at-line-end.line-end.ensures ∙ zero-add _) ∙ c.before.before.if2.false) ∙ ap
-    (λ (p : Place). board_sound p start.args.replay.state) c.enum_told.given.1)
+returns-in-Before c =
+    sym (fit_board c.args.replay c.if-count-gt-HELD_ROOM.false (sym (c.line_end.ensures ∙ zero-add _) ∙ c.if-line_end-count.false) ∙ ap
+    (λ (p : Place). board_sound p c.args.replay.state) c.in-Before.is)
 
-returns-4 : tie.Need-returns-4
+returns-in-On : tie.Need-returns-in-On
 unfolding board_sound
-returns-4 c =
-    let at-if2 = c.before.before.before in
-    let at-line-end = at-if2.before in
-    let at-if1 = at-line-end.before.before in
-    let start = at-if1.before.before in
-    c.is-sound.ensures ∙ sym (fit_board start.args.replay at-if1.if1.false (sym (at-line-end.line-end.ensures ∙ zero-add _) ∙ at-if2.if2.false) ∙ ap
-    (λ (p : Place). board_sound p start.args.replay.state) c.before.enum-told2.given.1)
+returns-in-On c =
+    c.is_sound.ensures ∙ sym (fit_board c.args.replay c.if-count-gt-HELD_ROOM.false (sym (c.line_end.ensures ∙ zero-add _) ∙ c.if-line_end-count.false) ∙ ap
+    (λ (p : Place). board_sound p c.args.replay.state) c.in-On.is)
 
-returns-5 : tie.Need-returns-5
+returns-in-Ended : tie.Need-returns-in-Ended
 unfolding board_sound
-returns-5 c =
-    let at-line-end = c.before.before.before in
-    let at-if1 = at-line-end.before.before in
-    let start = at-if1.before.before in
-    sym (fit_board start.args.replay at-if1.if1.false (sym (at-line-end.line-end.ensures ∙ zero-add _) ∙ c.before.before.if2.false) ∙ ap
-    (λ (p : Place). board_sound p start.args.replay.state) c.enum-told3.given.1)
+returns-in-Ended c =
+    sym (fit_board c.args.replay c.if-count-gt-HELD_ROOM.false (sym (c.line_end.ensures ∙ zero-add _) ∙ c.if-line_end-count.false) ∙ ap
+    (λ (p : Place). board_sound p c.args.replay.state) c.in-Ended.is)
 
-pub is-fit-spec : {M : Type 1} → statement M
-is-fit-spec =
+pub is_fit_spec : {M : Type 1} → statement M
+is_fit_spec =
     tie.close
     (tie.spec
-    returns
-    array-share-prefix-begun
-    slice-aggregate-line-end
-    line-end-requires
-    returns-2
-    enum_told
-    enum-told-2
-    is-sound-requires
-    enum-told-3
-    returns-3
-    returns-4
-    returns-5)
+    returns-then-count-gt-HELD_ROOM
+    slice_bounds-begun-end
+    slice_bounds-line_end-end
+    line_end-requires
+    returns-then-line_end-count
+    enum_told-1
+    enum_told-in-On
+    is_sound-requires
+    enum_told-in-Ended
+    returns-in-Before
+    returns-in-On
+    returns-in-Ended)

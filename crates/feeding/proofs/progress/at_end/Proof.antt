@@ -13,7 +13,7 @@ zero-requires c κs = search rules
 
 returns : tie.Need-returns
 unfolding paused padded
-returns c = λ i. record { replay = record { place = Ended; state = c.zero.ensures i; begun = replicate held_room 0; count = 0 }; written = c.before.args.written }
+returns c = λ i. record { replay = record { place = Ended; state = c.zero.ensures i; begun = replicate held_room 0; count = 0 }; written = c.args.written }
 
-pub at-end-spec : {M : Type 1} → statement M
-at-end-spec = tie.close (tie.spec zero-requires returns)
+pub at_end_spec : {M : Type 1} → statement M
+at_end_spec = tie.close (tie.spec zero-requires returns)

@@ -7,35 +7,35 @@ use Rattle.leaves.specs.Leaves.{is_pending_in}
 use Rattle.leaves.proofs.arbiter.rank_of.Statement.{statement}
 use Rattle.leaves.proofs.arbiter.rank_of.Tie as tie
 
-is-pending-requires : tie.Need-is-pending-requires
-is-pending-requires c κs = search rules
+is_pending-requires : tie.Need-is_pending-requires
+is_pending-requires c κs = search rules
 
-is-enabled-requires : tie.Need-is-enabled-requires
-is-enabled-requires c κs = search rules
+is_enabled-requires : tie.Need-is_enabled-requires
+is_enabled-requires c κs = search rules
 
-element-copy-out-result : tie.Need-element-copy-out-result
-element-copy-out-result c = search rules
+bounds-priority-i : tie.Need-bounds-priority-i
+bounds-priority-i c = search rules
 
-returns : tie.Need-returns
-returns c =
+returns-then-is_enabled : tie.Need-returns-then-is_enabled
+returns-then-is_enabled c =
     let d = c.before.before.before in
-    sym (cond_so _ _ (and_intro (sym d.before.is-pending.ensures ∙ d.if1.true) (sym c.before.before.is-enabled.ensures ∙ c.before.if2.true)))
+    sym (cond_so _ _ (and_intro (sym d.is_pending.ensures ∙ d.if-is_pending.true) (sym c.is_enabled.ensures ∙ c.if-is_enabled.true)))
 
-returns-2 : tie.Need-returns-2
-returns-2 c =
-    let a = c.before.before.before.before.args in
-    sym (cond_not _ _ (and_fails_right (is_pending_in a.stage.now a.i) (sym c.before.is-enabled.ensures ∙ c.if2.false)))
+returns-else-is_enabled : tie.Need-returns-else-is_enabled
+returns-else-is_enabled c =
+    let a = c.args in
+    sym (cond_not _ _ (and_fails_right (is_pending_in a.stage.now a.i) (sym c.is_enabled.ensures ∙ c.if-is_enabled.false)))
 
-returns-3 : tie.Need-returns-3
-returns-3 c = sym (cond_not _ _ (and_fails_left _ (sym c.before.is-pending.ensures ∙ c.if1.false)))
+returns-else-is_pending : tie.Need-returns-else-is_pending
+returns-else-is_pending c = sym (cond_not _ _ (and_fails_left _ (sym c.is_pending.ensures ∙ c.if-is_pending.false)))
 
-pub rank-of-spec : {M : Type 1} → statement M
-rank-of-spec =
+pub rank_of_spec : {M : Type 1} → statement M
+rank_of_spec =
     tie.close
     (tie.spec
-    is-pending-requires
-    is-enabled-requires
-    element-copy-out-result
-    returns
-    returns-2
-    returns-3)
+    is_pending-requires
+    is_enabled-requires
+    bounds-priority-i
+    returns-then-is_enabled
+    returns-else-is_enabled
+    returns-else-is_pending)

@@ -8,19 +8,19 @@ use Rattle.leaves.proofs.Passed.{first_none}
 use Rattle.leaves.proofs.checks.access_check.Statement.{statement}
 use Rattle.leaves.proofs.checks.access_check.Tie as tie
 
+returns-then-steps-ge4294967295 : tie.Need-returns-then-steps-ge4294967295
+returns-then-steps-ge4294967295 c = sym (first_hit _ _ (le-leb _ _ c.if-steps-ge4294967295.true))
+
+returns-then-offset-gt67108860 : tie.Need-returns-then-offset-gt67108860
+returns-then-offset-gt67108860 c = sym (first_miss _ _ (lt-leb _ _ c.if-steps-ge4294967295.false) ∙ first_hit _ _ (lt-ltb _ _ c.if-offset-gt67108860.true))
+
+returns-then-offset-ne0 : tie.Need-returns-then-offset-ne0
+returns-then-offset-ne0 c = sym (first_miss _ _ (lt-leb _ _ c.if-steps-ge4294967295.false) ∙ first_miss _ _ (le-ltb _ _ c.if-offset-gt67108860.false)
+    ∙ first_hit _ _ (ap not (ne_eqb _ _ c.if-offset-ne0.true)))
+
 returns : tie.Need-returns
-returns c = sym (first_hit _ _ (le-leb _ _ c.if1.true))
+returns c = sym (first_miss _ _ (lt-leb _ _ c.if-steps-ge4294967295.false) ∙ first_miss _ _ (le-ltb _ _ c.if-offset-gt67108860.false)
+    ∙ first_miss _ _ (ap not (eq-eqb _ _ c.if-offset-ne0.false)) ∙ first_none)
 
-returns-2 : tie.Need-returns-2
-returns-2 c = sym (first_miss _ _ (lt-leb _ _ c.before.if1.false) ∙ first_hit _ _ (lt-ltb _ _ c.if2.true))
-
-returns-3 : tie.Need-returns-3
-returns-3 c = sym (first_miss _ _ (lt-leb _ _ c.before.before.if1.false) ∙ first_miss _ _ (le-ltb _ _ c.before.if2.false)
-    ∙ first_hit _ _ (ap not (ne_eqb _ _ c.if3.true)))
-
-returns-4 : tie.Need-returns-4
-returns-4 c = sym (first_miss _ _ (lt-leb _ _ c.before.before.if1.false) ∙ first_miss _ _ (le-ltb _ _ c.before.if2.false)
-    ∙ first_miss _ _ (ap not (eq-eqb _ _ c.if3.false)) ∙ first_none)
-
-pub access-check-spec : {M : Type 1} → statement M
-access-check-spec = tie.close (tie.spec returns returns-2 returns-3 returns-4)
+pub access_check_spec : {M : Type 1} → statement M
+access_check_spec = tie.close (tie.spec returns-then-steps-ge4294967295 returns-then-offset-gt67108860 returns-then-offset-ne0 returns)

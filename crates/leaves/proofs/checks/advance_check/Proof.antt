@@ -10,22 +10,22 @@ use Rattle.leaves.proofs.Passed.{first_none}
 use Rattle.leaves.proofs.checks.advance_check.Statement.{statement}
 use Rattle.leaves.proofs.checks.advance_check.Tie as tie
 
+returns-then-steps-ge4294967295 : tie.Need-returns-then-steps-ge4294967295
+returns-then-steps-ge4294967295 c = sym (first_hit _ _ (le-leb _ _ c.if-steps-ge4294967295.true))
+
+overflow_sub-clock : tie.Need-overflow_sub-clock
+overflow_sub-clock c = search rules
+
+returns-then-clock-ticks : tie.Need-returns-then-clock-ticks
+returns-then-clock-ticks c =
+    let a = c.args in
+    sym (first_miss _ _ (lt-leb _ _ c.if-steps-ge4294967295.false) ∙ first_hit _ _ (lt-ltb 4294967295 (a.clock + a.ticks) (omega (arith, c.if-clock-ticks.true))))
+
 returns : tie.Need-returns
-returns c = sym (first_hit _ _ (le-leb _ _ c.if1.true))
+returns c =
+    let a = c.args in
+    sym (first_miss _ _ (lt-leb _ _ c.if-steps-ge4294967295.false)
+    ∙ first_miss _ _ (le-ltb 4294967295 (a.clock + a.ticks) (omega (arith, c.if-clock-ticks.false))) ∙ first_none)
 
-sub-if2 : tie.Need-overflow-sub-if2
-sub-if2 c = search rules
-
-returns-2 : tie.Need-returns-2
-returns-2 c =
-    let a = c.before.before.args in
-    sym (first_miss _ _ (lt-leb _ _ c.before.if1.false) ∙ first_hit _ _ (lt-ltb 4294967295 (a.clock + a.ticks) (omega (arith, c.if2.true))))
-
-returns-3 : tie.Need-returns-3
-returns-3 c =
-    let a = c.before.before.args in
-    sym (first_miss _ _ (lt-leb _ _ c.before.if1.false)
-    ∙ first_miss _ _ (le-ltb 4294967295 (a.clock + a.ticks) (omega (arith, c.if2.false))) ∙ first_none)
-
-pub advance-check-spec : {M : Type 1} → statement M
-advance-check-spec = tie.close (tie.spec returns sub-if2 returns-2 returns-3)
+pub advance_check_spec : {M : Type 1} → statement M
+advance_check_spec = tie.close (tie.spec returns-then-steps-ge4294967295 overflow_sub-clock returns-then-clock-ticks returns)

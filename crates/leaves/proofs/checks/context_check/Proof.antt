@@ -9,13 +9,13 @@ use Rattle.leaves.proofs.Passed.{first_none}
 use Rattle.leaves.proofs.checks.context_check.Statement.{statement}
 use Rattle.leaves.proofs.checks.context_check.Tie as tie
 
+returns-then-m-context : tie.Need-returns-then-m-context
+unfolding is_context
+returns-then-m-context c = sym (first_hit _ _ (ap not (le-ltb _ _ c.if-m-context.true)))
+
 returns : tie.Need-returns
 unfolding is_context
-returns c = sym (first_hit _ _ (ap not (le-ltb _ _ c.if1.true)))
+returns c = sym (first_miss _ _ (ap not (lt-ltb _ _ c.if-m-context.false)) ∙ first_none)
 
-returns-2 : tie.Need-returns-2
-unfolding is_context
-returns-2 c = sym (first_miss _ _ (ap not (lt-ltb _ _ c.if1.false)) ∙ first_none)
-
-pub context-check-spec : {M : Type 1} → statement M
-context-check-spec = tie.close (tie.spec returns returns-2)
+pub context_check_spec : {M : Type 1} → statement M
+context_check_spec = tie.close (tie.spec returns-then-m-context returns)

@@ -8,16 +8,16 @@ use Rattle.leaves.proofs.Passed.{first_none}
 use Rattle.leaves.proofs.checks.line_check.Statement.{statement}
 use Rattle.leaves.proofs.checks.line_check.Tie as tie
 
+returns-then-steps-ge4294967295 : tie.Need-returns-then-steps-ge4294967295
+returns-then-steps-ge4294967295 c = sym (first_hit _ _ (le-leb _ _ c.if-steps-ge4294967295.true))
+
+returns-then-not-source-n : tie.Need-returns-then-not-source-n
+unfolding is_source
+returns-then-not-source-n c = sym (first_miss _ _ (lt-leb _ _ c.if-steps-ge4294967295.false) ∙ first_hit _ _ c.if-not-source-n.true-raw)
+
 returns : tie.Need-returns
-returns c = sym (first_hit _ _ (le-leb _ _ c.if1.true))
-
-returns-2 : tie.Need-returns-2
 unfolding is_source
-returns-2 c = sym (first_miss _ _ (lt-leb _ _ c.before.if1.false) ∙ first_hit _ _ c.if2.true)
+returns c = sym (first_miss _ _ (lt-leb _ _ c.if-steps-ge4294967295.false) ∙ first_miss _ _ c.if-not-source-n.false-raw ∙ first_none)
 
-returns-3 : tie.Need-returns-3
-unfolding is_source
-returns-3 c = sym (first_miss _ _ (lt-leb _ _ c.before.if1.false) ∙ first_miss _ _ c.if2.false ∙ first_none)
-
-pub line-check-spec : {M : Type 1} → statement M
-line-check-spec = tie.close (tie.spec returns returns-2 returns-3)
+pub line_check_spec : {M : Type 1} → statement M
+line_check_spec = tie.close (tie.spec returns-then-steps-ge4294967295 returns-then-not-source-n returns)

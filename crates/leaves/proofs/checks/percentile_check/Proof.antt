@@ -7,14 +7,14 @@ use Rattle.leaves.proofs.Passed.{first_none}
 use Rattle.leaves.proofs.checks.percentile_check.Statement.{statement}
 use Rattle.leaves.proofs.checks.percentile_check.Tie as tie
 
+returns-then-not-per_mille : tie.Need-returns-then-not-per_mille
+returns-then-not-per_mille c = sym (first_hit _ _ c.if-not-per_mille.true-raw)
+
+returns-then-all-eq0 : tie.Need-returns-then-all-eq0
+returns-then-all-eq0 c = sym (first_miss _ _ c.if-not-per_mille.false-raw ∙ first_hit _ _ (eq-eqb _ _ c.if-all-eq0.true))
+
 returns : tie.Need-returns
-returns c = sym (first_hit _ _ c.if1.true)
+returns c = sym (first_miss _ _ c.if-not-per_mille.false-raw ∙ first_miss _ _ (ne_eqb _ _ c.if-all-eq0.false) ∙ first_none)
 
-returns-2 : tie.Need-returns-2
-returns-2 c = sym (first_miss _ _ c.before.if1.false ∙ first_hit _ _ (eq-eqb _ _ c.if2.true))
-
-returns-3 : tie.Need-returns-3
-returns-3 c = sym (first_miss _ _ c.before.if1.false ∙ first_miss _ _ (ne_eqb _ _ c.if2.false) ∙ first_none)
-
-pub percentile-check-spec : {M : Type 1} → statement M
-percentile-check-spec = tie.close (tie.spec returns returns-2 returns-3)
+pub percentile_check_spec : {M : Type 1} → statement M
+percentile_check_spec = tie.close (tie.spec returns-then-not-per_mille returns-then-all-eq0 returns)

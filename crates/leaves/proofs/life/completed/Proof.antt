@@ -9,20 +9,20 @@ use Rattle.model.specs.Life.{completed, raised, edge_taken, idled}
 use Rattle.leaves.proofs.life.completed.Statement.{statement}
 use Rattle.leaves.proofs.life.completed.Tie as tie
 
-returns : tie.Need-returns
+returns-then-kind-r : tie.Need-returns-then-kind-r
 unfolding completed raised
-returns c = sym (cond_so _ _ c.if1.true)
+returns-then-kind-r c = sym (cond_so _ _ c.if-kind-r.true)
 
-sub-t7 : tie.Need-overflow-sub-t7
-sub-t7 c = ltb-true 0 _ (and_right (eqb c.before.before.before.before.before.args.kind 2) _ c.before.if2.true)
+overflow_sub-result : tie.Need-overflow_sub-result
+overflow_sub-result c = ltb-true 0 _ (and_right (eqb c.args.kind 2) _ c.if-kind-r-2.true)
 
-returns-2 : tie.Need-returns-2
+returns-then-kind-r-2 : tie.Need-returns-then-kind-r-2
 unfolding completed raised edge_taken
-returns-2 c = sym (cond_not _ _ c.before.before.before.if1.false ∙ cond_so _ _ c.before.if2.true)
+returns-then-kind-r-2 c = sym (cond_not _ _ c.if-kind-r.false ∙ cond_so _ _ c.if-kind-r-2.true)
 
-returns-3 : tie.Need-returns-3
+returns : tie.Need-returns
 unfolding completed idled
-returns-3 c = sym (cond_not _ _ c.before.before.if1.false ∙ cond_not _ _ c.if2.false)
+returns c = sym (cond_not _ _ c.if-kind-r.false ∙ cond_not _ _ c.if-kind-r-2.false)
 
-pub completed-spec : {M : Type 1} → statement M
-completed-spec = tie.close (tie.spec returns sub-t7 returns-2 returns-3)
+pub completed_spec : {M : Type 1} → statement M
+completed_spec = tie.close (tie.spec returns-then-kind-r overflow_sub-result returns-then-kind-r-2 returns)

@@ -9,36 +9,36 @@ use Rattle.model.specs.Waits.{is_idle}
 use Rattle.leaves.proofs.life.edge_changed.Statement.{statement}
 use Rattle.leaves.proofs.life.edge_changed.Tie as tie
 
-returns : tie.Need-returns
+returns-then-r-eq0 : tie.Need-returns-then-r-eq0
 unfolding edge_changed raised line_at is_idle
-returns c = sym (cond_so _ _ c.before.before.if1.true ∙ cond_so _ _ (eq-eqb _ _ c.if2.true))
+returns-then-r-eq0 c = sym (cond_so _ _ c.if-r-level.true ∙ cond_so _ _ (eq-eqb _ _ c.if-r-eq0.true))
 
-one-more-requires : tie.Need-one-more-requires
-one-more-requires c κs = search rules
+one_more-requires : tie.Need-one_more-requires
+one_more-requires c κs = search rules
 
-returns-2 : tie.Need-returns-2
+returns-then-kind-eq2 : tie.Need-returns-then-kind-eq2
 unfolding edge_changed edge_counted raised line_at is_idle
-returns-2 c = sym
-    (cond_so _ _ c.before.before.before.before.if1.true
-    ∙ cond_not _ _ (ne_eqb _ _ c.before.before.if2.false)
-    ∙ cond_so _ _ (eq-eqb _ _ c.before.if3.true)
+returns-then-kind-eq2 c = sym
+    (cond_so _ _ c.if-r-level.true
+    ∙ cond_not _ _ (ne_eqb _ _ c.if-r-eq0.false)
+    ∙ cond_so _ _ (eq-eqb _ _ c.if-kind-eq2.true)
     ∙ ap (λ x. record {
-      stage = c.before.before.before.before.before.before.args.r.stage;
-      line = c.before.before.before.before.before.before.args.level;
+      stage = c.args.r.stage;
+      line = c.args.level;
       extra = x;
-      start = c.before.before.before.before.before.before.args.r.start;
+      start = c.args.r.start;
     }) (sym c.one_more.ensures))
 
-returns-3 : tie.Need-returns-3
+returns-else-kind-eq2 : tie.Need-returns-else-kind-eq2
 unfolding edge_changed edge_counted raised line_at is_idle
-returns-3 c = sym
-    (cond_so _ _ c.before.before.before.if1.true
-    ∙ cond_not _ _ (ne_eqb _ _ c.before.if2.false)
-    ∙ cond_not _ _ (ne_eqb _ _ c.if3.false))
+returns-else-kind-eq2 c = sym
+    (cond_so _ _ c.if-r-level.true
+    ∙ cond_not _ _ (ne_eqb _ _ c.if-r-eq0.false)
+    ∙ cond_not _ _ (ne_eqb _ _ c.if-kind-eq2.false))
 
-returns-4 : tie.Need-returns-4
+returns-else-r-level : tie.Need-returns-else-r-level
 unfolding edge_changed line_at
-returns-4 c = sym (cond_not _ _ c.if1.false)
+returns-else-r-level c = sym (cond_not _ _ c.if-r-level.false)
 
-pub edge-changed-spec : {M : Type 1} → statement M
-edge-changed-spec = tie.close (tie.spec returns one-more-requires returns-2 returns-3 returns-4)
+pub edge_changed_spec : {M : Type 1} → statement M
+edge_changed_spec = tie.close (tie.spec returns-then-r-eq0 one_more-requires returns-then-kind-eq2 returns-else-kind-eq2 returns-else-r-level)

@@ -7,13 +7,13 @@ use Rattle.model.specs.Waits.{is_idle}
 use Rattle.leaves.proofs.life.level_changed.Statement.{statement}
 use Rattle.leaves.proofs.life.level_changed.Tie as tie
 
+returns-then-r-level : tie.Need-returns-then-r-level
+unfolding level_changed raised line_at is_idle
+returns-then-r-level c = sym (cond_so _ _ c.if-r-level.true)
+
 returns : tie.Need-returns
 unfolding level_changed raised line_at is_idle
-returns c = sym (cond_so _ _ c.if1.true)
+returns c = sym (cond_not _ _ c.if-r-level.false)
 
-returns-2 : tie.Need-returns-2
-unfolding level_changed raised line_at is_idle
-returns-2 c = sym (cond_not _ _ c.if1.false)
-
-pub level-changed-spec : {M : Type 1} → statement M
-level-changed-spec = tie.close (tie.spec returns returns-2)
+pub level_changed_spec : {M : Type 1} → statement M
+level_changed_spec = tie.close (tie.spec returns-then-r-level returns)

@@ -8,20 +8,20 @@ use Rattle.model.specs.Life.{line_changed}
 use Rattle.leaves.proofs.life.line_changed.Statement.{statement}
 use Rattle.leaves.proofs.life.line_changed.Tie as tie
 
-level-changed-requires : tie.Need-level-changed-requires
-level-changed-requires c κs = search rules
+level_changed-requires : tie.Need-level_changed-requires
+level_changed-requires c κs = search rules
+
+returns-then-kind-eq0 : tie.Need-returns-then-kind-eq0
+unfolding line_changed
+returns-then-kind-eq0 c = c.level_changed.ensures ∙ sym (cond_so _ _ (eq-eqb _ _ c.if-kind-eq0.true))
+
+edge_changed-requires : tie.Need-edge_changed-requires
+edge_changed-requires c κs = search rules
 
 returns : tie.Need-returns
 unfolding line_changed
-returns c = c.level-changed.ensures ∙ sym (cond_so _ _ (eq-eqb _ _ c.before.if1.true))
+returns c = c.edge_changed.ensures ∙ sym (cond_not _ _ (ne_eqb _ _ c.if-kind-eq0.false))
 
-edge-changed-requires : tie.Need-edge-changed-requires
-edge-changed-requires c κs = search rules
-
-returns-2 : tie.Need-returns-2
-unfolding line_changed
-returns-2 c = c.edge-changed.ensures ∙ sym (cond_not _ _ (ne_eqb _ _ c.before.if1.false))
-
-pub line-changed-spec : {M : Type 1} → statement M
-line-changed-spec =
-    tie.close (tie.spec level-changed-requires returns edge-changed-requires returns-2)
+pub line_changed_spec : {M : Type 1} → statement M
+line_changed_spec =
+    tie.close (tie.spec level_changed-requires returns-then-kind-eq0 edge_changed-requires returns)

@@ -7,14 +7,14 @@ use borrow.Author.Tests.{lt-ltb, le-ltb}
 use Rattle.leaves.proofs.life.one_more.Statement.{statement}
 use Rattle.leaves.proofs.life.one_more.Tie as tie
 
-add-result : tie.Need-overflow-add-result
-add-result c = search rules
+overflow_add-result : tie.Need-overflow_add-result
+overflow_add-result c = search rules
 
-returns : tie.Need-returns
-returns c = sym (cond_so _ _ (lt-ltb _ _ c.if1.true))
+returns-then-extra-lt-MOST_EDGES : tie.Need-returns-then-extra-lt-MOST_EDGES
+returns-then-extra-lt-MOST_EDGES c = sym (cond_so _ _ (lt-ltb _ _ c.if-extra-lt-MOST_EDGES.true))
 
-returns-2 : tie.Need-returns-2
-returns-2 c = sym (cond_not _ _ (le-ltb _ _ c.if1.false))
+returns-else-extra-lt-MOST_EDGES : tie.Need-returns-else-extra-lt-MOST_EDGES
+returns-else-extra-lt-MOST_EDGES c = sym (cond_not _ _ (le-ltb _ _ c.if-extra-lt-MOST_EDGES.false))
 
-pub one-more-spec : {M : Type 1} → statement M
-one-more-spec = tie.close (tie.spec add-result returns returns-2)
+pub one_more_spec : {M : Type 1} → statement M
+one_more_spec = tie.close (tie.spec overflow_add-result returns-then-extra-lt-MOST_EDGES returns-else-extra-lt-MOST_EDGES)

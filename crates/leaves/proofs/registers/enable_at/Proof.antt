@@ -7,13 +7,13 @@ use Rattle.model.specs.Board.{is_word, is_context}
 use Rattle.leaves.proofs.registers.enable_at.Statement.{statement}
 use Rattle.leaves.proofs.registers.enable_at.Tie as tie
 
-returns : tie.Need-returns
+returns-then-c-m : tie.Need-returns-then-c-m
 unfolding enable_at is_word is_context
-returns c = sym (cond_so _ _ c.if1.true)
+returns-then-c-m c = sym (cond_so _ _ c.if-c-m.true)
 
-returns-2 : tie.Need-returns-2
+returns-else-c-m : tie.Need-returns-else-c-m
 unfolding enable_at is_word is_context
-returns-2 c = sym (cond_not _ _ c.if1.false)
+returns-else-c-m c = sym (cond_not _ _ c.if-c-m.false)
 
-pub enable-at-spec : {M : Type 1} → statement M
-enable-at-spec = tie.close (tie.spec returns returns-2)
+pub enable_at_spec : {M : Type 1} → statement M
+enable_at_spec = tie.close (tie.spec returns-then-c-m returns-else-c-m)

@@ -7,17 +7,17 @@ use Rattle.model.specs.Board.{is_context}
 use Rattle.leaves.proofs.registers.page_at.Statement.{statement}
 use Rattle.leaves.proofs.registers.page_at.Tie as tie
 
+returns-then-c-m : tie.Need-returns-then-c-m
+unfolding page_at is_context
+returns-then-c-m c = sym (cond_so _ _ c.if-c-m.true)
+
+returns-then-c-m-2 : tie.Need-returns-then-c-m-2
+unfolding page_at is_context
+returns-then-c-m-2 c = sym (cond_not _ _ c.if-c-m.false ∙ cond_so _ _ c.if-c-m-2.true)
+
 returns : tie.Need-returns
 unfolding page_at is_context
-returns c = sym (cond_so _ _ c.if1.true)
+returns c = sym (cond_not _ _ c.if-c-m.false ∙ cond_not _ _ c.if-c-m-2.false)
 
-returns-2 : tie.Need-returns-2
-unfolding page_at is_context
-returns-2 c = sym (cond_not _ _ c.before.if1.false ∙ cond_so _ _ c.if2.true)
-
-returns-3 : tie.Need-returns-3
-unfolding page_at is_context
-returns-3 c = sym (cond_not _ _ c.before.if1.false ∙ cond_not _ _ c.if2.false)
-
-pub page-at-spec : {M : Type 1} → statement M
-page-at-spec = tie.close (tie.spec returns returns-2 returns-3)
+pub page_at_spec : {M : Type 1} → statement M
+page_at_spec = tie.close (tie.spec returns-then-c-m returns-then-c-m-2 returns)

@@ -8,13 +8,13 @@ use Rattle.model.specs.Board.{is_word}
 use Rattle.leaves.proofs.registers.pending_at.Statement.{statement}
 use Rattle.leaves.proofs.registers.pending_at.Tie as tie
 
-returns : tie.Need-returns
+returns-then-w-n : tie.Need-returns-then-w-n
 unfolding pending_at is_word
-returns c = sym (cond_so _ _ (le-leb _ _ c.if1.true))
+returns-then-w-n c = sym (cond_so _ _ (le-leb _ _ c.if-w-n.true))
 
-returns-2 : tie.Need-returns-2
+returns-else-w-n : tie.Need-returns-else-w-n
 unfolding pending_at is_word
-returns-2 c = sym (cond_not _ _ (lt-leb _ _ c.if1.false))
+returns-else-w-n c = sym (cond_not _ _ (lt-leb _ _ c.if-w-n.false))
 
-pub pending-at-spec : {M : Type 1} → statement M
-pending-at-spec = tie.close (tie.spec returns returns-2)
+pub pending_at_spec : {M : Type 1} → statement M
+pending_at_spec = tie.close (tie.spec returns-then-w-n returns-else-w-n)

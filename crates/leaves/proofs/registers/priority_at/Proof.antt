@@ -7,13 +7,13 @@ use Rattle.model.specs.Board.{is_source}
 use Rattle.leaves.proofs.registers.priority_at.Statement.{statement}
 use Rattle.leaves.proofs.registers.priority_at.Tie as tie
 
-returns : tie.Need-returns
+returns-then-s-n : tie.Need-returns-then-s-n
 unfolding priority_at is_source
-returns c = sym (cond_so _ _ c.if1.true)
+returns-then-s-n c = sym (cond_so _ _ c.if-s-n.true)
 
-returns-2 : tie.Need-returns-2
+returns-else-s-n : tie.Need-returns-else-s-n
 unfolding priority_at is_source
-returns-2 c = sym (cond_not _ _ c.if1.false)
+returns-else-s-n c = sym (cond_not _ _ c.if-s-n.false)
 
-pub priority-at-spec : {M : Type 1} → statement M
-priority-at-spec = tie.close (tie.spec returns returns-2)
+pub priority_at_spec : {M : Type 1} → statement M
+priority_at_spec = tie.close (tie.spec returns-then-s-n returns-else-s-n)

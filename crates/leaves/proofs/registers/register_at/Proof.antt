@@ -16,52 +16,52 @@ found : (c : tie.Start) (r : Register) → r ≡ decode c.args.n c.args.m c.args
     (r ≡ decode c.args.n c.args.m c.args.offset) × Within c.args.n r
 found c r e = (e, bounded c.args.n c.args.m c.args.offset c.requires r e)
 
-priority-at-requires : tie.Need-priority-at-requires
-priority-at-requires c κs = search rules
+priority_at-requires : tie.Need-priority_at-requires
+priority_at-requires c κs = search rules
+
+returns-then-offset-lt4096 : tie.Need-returns-then-offset-lt4096
+unfolding decode
+returns-then-offset-lt4096 c = found c.before.before c.priority_at.result (c.priority_at.ensures ∙ sym (cond_so _ _ (lt-ltb _ _ c.if-offset-lt4096.true)))
+
+pending_at-requires : tie.Need-pending_at-requires
+pending_at-requires c κs = search rules
+
+returns-then-offset-lt8192 : tie.Need-returns-then-offset-lt8192
+unfolding decode
+returns-then-offset-lt8192 c = found c.before.before.before c.pending_at.result (c.pending_at.ensures
+    ∙ sym (cond_not _ _ (le-ltb _ _ c.if-offset-lt4096.false) ∙ cond_so _ _ (lt-ltb _ _ c.if-offset-lt8192.true)))
+
+enable_at-requires : tie.Need-enable_at-requires
+enable_at-requires c κs = search rules
+
+returns-then-offset-lt2097152 : tie.Need-returns-then-offset-lt2097152
+unfolding decode
+returns-then-offset-lt2097152 c = found c.before.before.before.before c.enable_at.result (c.enable_at.ensures
+    ∙ sym
+    (cond_not _ _ (le-ltb _ _ c.if-offset-lt4096.false)
+    ∙ cond_not _ _ (le-ltb _ _ c.if-offset-lt8192.false)
+    ∙ cond_so _ _ (lt-ltb _ _ c.if-offset-lt2097152.true)))
+
+page_at-requires : tie.Need-page_at-requires
+page_at-requires c κs = search rules
 
 returns : tie.Need-returns
 unfolding decode
-returns c = found c.before.before c.priority-at.result (c.priority-at.ensures ∙ sym (cond_so _ _ (lt-ltb _ _ c.before.if1.true)))
-
-pending-at-requires : tie.Need-pending-at-requires
-pending-at-requires c κs = search rules
-
-returns-2 : tie.Need-returns-2
-unfolding decode
-returns-2 c = found c.before.before.before c.pending-at.result (c.pending-at.ensures
-    ∙ sym (cond_not _ _ (le-ltb _ _ c.before.before.if1.false) ∙ cond_so _ _ (lt-ltb _ _ c.before.if2.true)))
-
-enable-at-requires : tie.Need-enable-at-requires
-enable-at-requires c κs = search rules
-
-returns-3 : tie.Need-returns-3
-unfolding decode
-returns-3 c = found c.before.before.before.before c.enable-at.result (c.enable-at.ensures
+returns c = found c.before.before.before.before c.page_at.result (c.page_at.ensures
     ∙ sym
-    (cond_not _ _ (le-ltb _ _ c.before.before.before.if1.false)
-    ∙ cond_not _ _ (le-ltb _ _ c.before.before.if2.false)
-    ∙ cond_so _ _ (lt-ltb _ _ c.before.if3.true)))
+    (cond_not _ _ (le-ltb _ _ c.if-offset-lt4096.false)
+    ∙ cond_not _ _ (le-ltb _ _ c.if-offset-lt8192.false)
+    ∙ cond_not _ _ (le-ltb _ _ c.if-offset-lt2097152.false)))
 
-page-at-requires : tie.Need-page-at-requires
-page-at-requires c κs = search rules
-
-returns-4 : tie.Need-returns-4
-unfolding decode
-returns-4 c = found c.before.before.before.before c.page-at.result (c.page-at.ensures
-    ∙ sym
-    (cond_not _ _ (le-ltb _ _ c.before.before.before.if1.false)
-    ∙ cond_not _ _ (le-ltb _ _ c.before.before.if2.false)
-    ∙ cond_not _ _ (le-ltb _ _ c.before.if3.false)))
-
-pub register-at-spec : {M : Type 1} → statement M
-register-at-spec =
+pub register_at_spec : {M : Type 1} → statement M
+register_at_spec =
     tie.close
     (tie.spec
-    priority-at-requires
-    returns
-    pending-at-requires
-    returns-2
-    enable-at-requires
-    returns-3
-    page-at-requires
-    returns-4)
+    priority_at-requires
+    returns-then-offset-lt4096
+    pending_at-requires
+    returns-then-offset-lt8192
+    enable_at-requires
+    returns-then-offset-lt2097152
+    page_at-requires
+    returns)

@@ -10,51 +10,51 @@ use Rattle.leaves.proofs.Sums.{Summing, sum_begin, sum_next, sum_all}
 use Rattle.leaves.proofs.totals.bucket_total.Statement.{statement}
 use Rattle.leaves.proofs.totals.bucket_total.Tie as tie
 
-abbrev invariant-loop : tie.invariant-loop
-invariant-loop counts total₀ k₀ total k = Summing (λ j. get_or counts j 0) bucket_room k total
+abbrev invariant-loop-k : tie.invariant-loop-k
+invariant-loop-k counts total₀ k₀ total k = Summing (λ j. get_or counts j 0) bucket_room k total
 
-abbrev decreases-loop : tie.decreases-loop
-decreases-loop counts total₀ k₀ total k = bucket_room - k
+abbrev decreases-loop-k : tie.decreases-loop-k
+decreases-loop-k counts total₀ k₀ total k = bucket_room - k
 
-loop-holds : tie.Need-loop-init invariant-loop decreases-loop
-loop-holds c = sum_begin _ bucket_room
+loop-k-init : tie.Need-loop-k-init invariant-loop-k decreases-loop-k
+loop-k-init c = sum_begin _ bucket_room
 
-mul_wide : tie.Need-overflow-mul-wide invariant-loop decreases-loop
-mul_wide c = omega arith
+offset_bounds-counts-k : tie.Need-offset_bounds-counts-k invariant-loop-k decreases-loop-k
+offset_bounds-counts-k c = omega arith
 
-element-copy-out-wide : tie.Need-element-copy-out-wide invariant-loop decreases-loop
-element-copy-out-wide c = omega arith
+bounds-counts-k : tie.Need-bounds-counts-k invariant-loop-k decreases-loop-k
+bounds-counts-k c = omega arith
 
-wide-requires : tie.Need-wide-requires invariant-loop decreases-loop
-wide-requires c κs = search rules
+wide-total-requires : tie.Need-wide-total-requires invariant-loop-k decreases-loop-k
+wide-total-requires c κs = search rules
 
-add_total : tie.Need-overflow-add-total invariant-loop decreases-loop
-add_total c = omega (arith, c.wide.ensures.1)
+overflow_add-total : tie.Need-overflow_add-total invariant-loop-k decreases-loop-k
+overflow_add-total c = omega (arith, c.wide-total.ensures.1)
 
-add-k : tie.Need-overflow-add-k invariant-loop decreases-loop
-add-k c = omega arith
+overflow_add-k : tie.Need-overflow_add-k invariant-loop-k decreases-loop-k
+overflow_add-k c = omega arith
 
-loop-less : tie.Need-loop-smaller invariant-loop decreases-loop
-loop-less c = omega arith
+loop-k-smaller : tie.Need-loop-k-smaller invariant-loop-k decreases-loop-k
+loop-k-smaller c = omega arith
 
-loop-again : tie.Need-loop-preserved invariant-loop decreases-loop
-loop-again c = sum_next _ bucket_room c.wide.result c.before.before.before.loop.invariant (omega arith) c.wide.ensures.0 c.wide.ensures.1
+loop-k-preserved : tie.Need-loop-k-preserved invariant-loop-k decreases-loop-k
+loop-k-preserved c = sum_next _ bucket_room c.wide-total.result c.loop-k.invariant (omega arith) c.wide-total.ensures.0 c.wide-total.ensures.1
 
-returns : tie.Need-returns invariant-loop decreases-loop
-returns c = sum_all _ bucket_room c.before.loop.invariant c.loop-test.false
+returns : tie.Need-returns invariant-loop-k decreases-loop-k
+returns c = sum_all _ bucket_room c.loop-k.invariant c.loop-k-test.false
 
-pub bucket-total-spec : {M : Type 1} → statement M
-bucket-total-spec =
+pub bucket_total_spec : {M : Type 1} → statement M
+bucket_total_spec =
     tie.close
     (tie.spec
-    invariant-loop
-    decreases-loop
-    loop-holds
-    mul_wide
-    element-copy-out-wide
-    wide-requires
-    add_total
-    add-k
-    loop-less
-    loop-again
+    invariant-loop-k
+    decreases-loop-k
+    loop-k-init
+    offset_bounds-counts-k
+    bounds-counts-k
+    wide-total-requires
+    overflow_add-total
+    overflow_add-k
+    loop-k-smaller
+    loop-k-preserved
     returns)

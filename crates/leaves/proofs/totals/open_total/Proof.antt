@@ -16,65 +16,65 @@ use Rattle.leaves.proofs.totals.open_total.Tie as tie
 abbrev age : ℕ → List ℕ → List ℕ → ℕ → ℕ
 age clock stage start i = open_age_in clock (is_pending_in stage i) (get_or start i 0)
 
-abbrev invariant-loop : tie.invariant-loop
-invariant-loop clock stage start total₀ i₀ total i = Summing (age clock stage start) source_room i total
+abbrev invariant-loop-i : tie.invariant-loop-i
+invariant-loop-i clock stage start total₀ i₀ total i = Summing (age clock stage start) source_room i total
 
-abbrev decreases-loop : tie.decreases-loop
-decreases-loop clock stage start total₀ i₀ total i = source_room - i
+abbrev decreases-loop-i : tie.decreases-loop-i
+decreases-loop-i clock stage start total₀ i₀ total i = source_room - i
 
-loop-holds : tie.Need-loop-init invariant-loop decreases-loop
-loop-holds c = sum_begin _ source_room
+loop-i-init : tie.Need-loop-i-init invariant-loop-i decreases-loop-i
+loop-i-init c = sum_begin _ source_room
 
-is-pending-requires : tie.Need-is-pending-requires invariant-loop decreases-loop
-is-pending-requires c κs = omega arith
+is_pending-requires : tie.Need-is_pending-requires invariant-loop-i decreases-loop-i
+is_pending-requires c κs = omega arith
 
-mul-open-age : tie.Need-overflow-mul-open-age invariant-loop decreases-loop
-mul-open-age c = omega arith
+offset_bounds-start-i : tie.Need-offset_bounds-start-i invariant-loop-i decreases-loop-i
+offset_bounds-start-i c = omega arith
 
-element-copy-out-open-age : tie.Need-element-copy-out-open-age invariant-loop decreases-loop
-element-copy-out-open-age c = omega arith
+bounds-start-i : tie.Need-bounds-start-i invariant-loop-i decreases-loop-i
+bounds-start-i c = omega arith
 
-open-age-requires : tie.Need-open-age-requires invariant-loop decreases-loop
-open-age-requires c κs = search rules
+open_age-requires : tie.Need-open_age-requires invariant-loop-i decreases-loop-i
+open_age-requires c κs = search rules
 
-wide-requires : tie.Need-wide-requires invariant-loop decreases-loop
-wide-requires c κs = search rules
+wide-total-requires : tie.Need-wide-total-requires invariant-loop-i decreases-loop-i
+wide-total-requires c κs = search rules
 
-add_total : tie.Need-overflow-add-total invariant-loop decreases-loop
-add_total c = omega (arith, c.wide.ensures.1)
+overflow_add-total : tie.Need-overflow_add-total invariant-loop-i decreases-loop-i
+overflow_add-total c = omega (arith, c.wide-total.ensures.1)
 
-add-i : tie.Need-overflow-add-i invariant-loop decreases-loop
-add-i c = omega arith
+overflow_add-i : tie.Need-overflow_add-i invariant-loop-i decreases-loop-i
+overflow_add-i c = omega arith
 
-loop-less : tie.Need-loop-smaller invariant-loop decreases-loop
-loop-less c = omega arith
+loop-i-smaller : tie.Need-loop-i-smaller invariant-loop-i decreases-loop-i
+loop-i-smaller c = omega arith
 
-loop-again : tie.Need-loop-preserved invariant-loop decreases-loop
-loop-again c =
-    let a = c.before.before.before.before.before.before.args in
-    let l = c.before.before.before.before.before.loop in
-    let pending = c.before.before.before.is-pending.ensures in
-    sum_next _ source_room c.wide.result l.invariant (omega arith)
-    (c.wide.ensures.0 ∙ c.before.open-age.ensures ∙ ap (λ (b : Bool). open_age_in a.clock b (get_or a.start.now l.i 0)) pending)
-    c.wide.ensures.1
+loop-i-preserved : tie.Need-loop-i-preserved invariant-loop-i decreases-loop-i
+loop-i-preserved c =
+    let a = c.args in
+    let l = c.loop-i in
+    let pending = c.is_pending.ensures in
+    sum_next _ source_room c.wide-total.result l.invariant (omega arith)
+    (c.wide-total.ensures.0 ∙ c.open_age.ensures ∙ ap (λ (b : Bool). open_age_in a.clock b (get_or a.start.now l.i 0)) pending)
+    c.wide-total.ensures.1
 
-returns : tie.Need-returns invariant-loop decreases-loop
-returns c = sum_all _ source_room c.before.loop.invariant c.loop-test.false
+returns : tie.Need-returns invariant-loop-i decreases-loop-i
+returns c = sum_all _ source_room c.loop-i.invariant c.loop-i-test.false
 
-pub open-total-spec : {M : Type 1} → statement M
-open-total-spec =
+pub open_total_spec : {M : Type 1} → statement M
+open_total_spec =
     tie.close
     (tie.spec
-    invariant-loop
-    decreases-loop
-    loop-holds
-    is-pending-requires
-    mul-open-age
-    element-copy-out-open-age
-    open-age-requires
-    wide-requires
-    add_total
-    add-i
-    loop-less
-    loop-again
+    invariant-loop-i
+    decreases-loop-i
+    loop-i-init
+    is_pending-requires
+    offset_bounds-start-i
+    bounds-start-i
+    open_age-requires
+    wide-total-requires
+    overflow_add-total
+    overflow_add-i
+    loop-i-smaller
+    loop-i-preserved
     returns)

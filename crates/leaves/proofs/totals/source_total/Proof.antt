@@ -10,51 +10,51 @@ use Rattle.leaves.proofs.Sums.{Summing, sum_begin, sum_next, sum_all}
 use Rattle.leaves.proofs.totals.source_total.Statement.{statement}
 use Rattle.leaves.proofs.totals.source_total.Tie as tie
 
-abbrev invariant-loop : tie.invariant-loop
-invariant-loop counts total₀ i₀ total i = Summing (λ j. get_or counts j 0) source_room i total
+abbrev invariant-loop-i : tie.invariant-loop-i
+invariant-loop-i counts total₀ i₀ total i = Summing (λ j. get_or counts j 0) source_room i total
 
-abbrev decreases-loop : tie.decreases-loop
-decreases-loop counts total₀ i₀ total i = source_room - i
+abbrev decreases-loop-i : tie.decreases-loop-i
+decreases-loop-i counts total₀ i₀ total i = source_room - i
 
-loop-holds : tie.Need-loop-init invariant-loop decreases-loop
-loop-holds c = sum_begin _ source_room
+loop-i-init : tie.Need-loop-i-init invariant-loop-i decreases-loop-i
+loop-i-init c = sum_begin _ source_room
 
-mul_wide : tie.Need-overflow-mul-wide invariant-loop decreases-loop
-mul_wide c = omega arith
+offset_bounds-counts-i : tie.Need-offset_bounds-counts-i invariant-loop-i decreases-loop-i
+offset_bounds-counts-i c = omega arith
 
-element-copy-out-wide : tie.Need-element-copy-out-wide invariant-loop decreases-loop
-element-copy-out-wide c = omega arith
+bounds-counts-i : tie.Need-bounds-counts-i invariant-loop-i decreases-loop-i
+bounds-counts-i c = omega arith
 
-wide-requires : tie.Need-wide-requires invariant-loop decreases-loop
-wide-requires c κs = search rules
+wide-total-requires : tie.Need-wide-total-requires invariant-loop-i decreases-loop-i
+wide-total-requires c κs = search rules
 
-add_total : tie.Need-overflow-add-total invariant-loop decreases-loop
-add_total c = omega (arith, c.wide.ensures.1)
+overflow_add-total : tie.Need-overflow_add-total invariant-loop-i decreases-loop-i
+overflow_add-total c = omega (arith, c.wide-total.ensures.1)
 
-add-i : tie.Need-overflow-add-i invariant-loop decreases-loop
-add-i c = omega arith
+overflow_add-i : tie.Need-overflow_add-i invariant-loop-i decreases-loop-i
+overflow_add-i c = omega arith
 
-loop-less : tie.Need-loop-smaller invariant-loop decreases-loop
-loop-less c = omega arith
+loop-i-smaller : tie.Need-loop-i-smaller invariant-loop-i decreases-loop-i
+loop-i-smaller c = omega arith
 
-loop-again : tie.Need-loop-preserved invariant-loop decreases-loop
-loop-again c = sum_next _ source_room c.wide.result c.before.before.before.loop.invariant (omega arith) c.wide.ensures.0 c.wide.ensures.1
+loop-i-preserved : tie.Need-loop-i-preserved invariant-loop-i decreases-loop-i
+loop-i-preserved c = sum_next _ source_room c.wide-total.result c.loop-i.invariant (omega arith) c.wide-total.ensures.0 c.wide-total.ensures.1
 
-returns : tie.Need-returns invariant-loop decreases-loop
-returns c = sum_all _ source_room c.before.loop.invariant c.loop-test.false
+returns : tie.Need-returns invariant-loop-i decreases-loop-i
+returns c = sum_all _ source_room c.loop-i.invariant c.loop-i-test.false
 
-pub source-total-spec : {M : Type 1} → statement M
-source-total-spec =
+pub source_total_spec : {M : Type 1} → statement M
+source_total_spec =
     tie.close
     (tie.spec
-    invariant-loop
-    decreases-loop
-    loop-holds
-    mul_wide
-    element-copy-out-wide
-    wide-requires
-    add_total
-    add-i
-    loop-less
-    loop-again
+    invariant-loop-i
+    decreases-loop-i
+    loop-i-init
+    offset_bounds-counts-i
+    bounds-counts-i
+    wide-total-requires
+    overflow_add-total
+    overflow_add-i
+    loop-i-smaller
+    loop-i-preserved
     returns)

@@ -8,14 +8,14 @@ use Rattle.leaves.proofs.waits.bucket_of.Statement.{statement}
 use Rattle.leaves.proofs.waits.bucket_of.Tie as tie
 
 -- the count is at most the width
-sub-result : tie.Need-overflow-sub-result
-sub-result c = le_trans (leading_le 32 _) (omega arith)
+overflow_sub-result : tie.Need-overflow_sub-result
+overflow_sub-result c = le_trans (leading_le 32 _) (omega arith)
 
-cast-result : tie.Need-overflow-cast-result
-cast-result c = omega arith
+overflow_cast-result : tie.Need-overflow_cast-result
+overflow_cast-result c = omega arith
 
 returns : tie.Need-returns
 returns c = leading_bucket c.args.wait 32 (omega arith) c.ranges.wait.fits
 
-pub bucket-of-spec : {M : Type 1} → statement M
-bucket-of-spec = tie.close (tie.spec sub-result cast-result returns)
+pub bucket_of_spec : {M : Type 1} → statement M
+bucket_of_spec = tie.close (tie.spec overflow_sub-result overflow_cast-result returns)

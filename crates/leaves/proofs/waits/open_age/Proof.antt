@@ -8,17 +8,17 @@ use Rattle.leaves.specs.Leaves.{open_age_in}
 use Rattle.leaves.proofs.waits.open_age.Statement.{statement}
 use Rattle.leaves.proofs.waits.open_age.Tie as tie
 
-returns : tie.Need-returns
+returns-then-start-clock : tie.Need-returns-then-start-clock
 unfolding open_age_in
-returns c = sym (cond_so _ _ c.before.if1.true)
+returns-then-start-clock c = sym (cond_so _ _ c.if-pending.true)
 
-returns-2 : tie.Need-returns-2
+returns-else-start-clock : tie.Need-returns-else-start-clock
 unfolding open_age_in
-returns-2 c = sym (cond_so _ _ c.before.if1.true ∙ sub-eq-zero_of_le (omega (arith, c.if2.false)))
+returns-else-start-clock c = sym (cond_so _ _ c.if-pending.true ∙ sub-eq-zero_of_le (omega (arith, c.if-start-clock.false)))
 
-returns-3 : tie.Need-returns-3
+returns-else-pending : tie.Need-returns-else-pending
 unfolding open_age_in
-returns-3 c = sym (cond_not _ _ c.if1.false)
+returns-else-pending c = sym (cond_not _ _ c.if-pending.false)
 
-pub open-age-spec : {M : Type 1} → statement M
-open-age-spec = tie.close (tie.spec returns returns-2 returns-3)
+pub open_age_spec : {M : Type 1} → statement M
+open_age_spec = tie.close (tie.spec returns-then-start-clock returns-else-start-clock returns-else-pending)

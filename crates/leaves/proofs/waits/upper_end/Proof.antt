@@ -6,15 +6,15 @@ use Rattle.model.specs.Waits.{upper_end, upper_ends}
 use Rattle.leaves.proofs.waits.upper_end.Statement.{statement}
 use Rattle.leaves.proofs.waits.upper_end.Tie as tie
 
-mul-result : tie.Need-overflow-mul-result
-mul-result c = search rules
+offset_bounds-k : tie.Need-offset_bounds-k
+offset_bounds-k c = search rules
 
-array-read-result : tie.Need-array-read-result
-array-read-result c = search rules
+bounds-k : tie.Need-bounds-k
+bounds-k c = search rules
 
 returns : tie.Need-returns
 unfolding upper_end upper_ends
 returns c = refl
 
-pub upper-end-spec : {M : Type 1} → statement M
-upper-end-spec = tie.close (tie.spec mul-result array-read-result returns)
+pub upper_end_spec : {M : Type 1} → statement M
+upper_end_spec = tie.close (tie.spec offset_bounds-k bounds-k returns)

@@ -6,12 +6,12 @@ use Rattle.laws.specs.Bits.{bit}
 use Rattle.leaves.proofs.words.bit_of.Statement.{statement}
 use Rattle.leaves.proofs.words.bit_of.Tie as tie
 
-shr-result : tie.Need-overflow-shr-result
-shr-result c = search rules
+overflow_shr-result : tie.Need-overflow_shr-result
+overflow_shr-result c = search rules
 
 returns : tie.Need-returns
 unfolding bit
 returns c = refl
 
-pub bit-of-spec : {M : Type 1} → statement M
-bit-of-spec = tie.close (tie.spec shr-result returns)
+pub bit_of_spec : {M : Type 1} → statement M
+bit_of_spec = tie.close (tie.spec overflow_shr-result returns)

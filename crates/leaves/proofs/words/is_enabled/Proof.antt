@@ -5,36 +5,36 @@ use Rattle.leaves.specs.Leaves.{enabled_in}
 use Rattle.leaves.proofs.words.is_enabled.Statement.{statement}
 use Rattle.leaves.proofs.words.is_enabled.Tie as tie
 
-mul-word : tie.Need-overflow-mul-word
-mul-word c = search rules
+overflow_mul-word : tie.Need-overflow_mul-word
+overflow_mul-word c = search rules
 
-add-word : tie.Need-overflow-add-word
-add-word c = search rules
+overflow_add-word : tie.Need-overflow_add-word
+overflow_add-word c = search rules
 
-mul-word-2 : tie.Need-overflow-mul-word-2
-mul-word-2 c = search rules
+offset_bounds-enable-c : tie.Need-offset_bounds-enable-c
+offset_bounds-enable-c c = search rules
 
-element-copy-out-word : tie.Need-element-copy-out-word
-element-copy-out-word c = search rules
+bounds-enable-c : tie.Need-bounds-enable-c
+bounds-enable-c c = search rules
 
-cast-bit-of : tie.Need-overflow-cast-bit-of
-cast-bit-of c = search rules
+overflow_cast-i : tie.Need-overflow_cast-i
+overflow_cast-i c = search rules
 
-bit-of-requires : tie.Need-bit-of-requires
-bit-of-requires c κs = search rules
+bit_of-requires : tie.Need-bit_of-requires
+bit_of-requires c κs = search rules
 
 returns : tie.Need-returns
 unfolding enabled_in
-returns c = c.bit-of.ensures
+returns c = c.bit_of.ensures
 
-pub is-enabled-spec : {M : Type 1} → statement M
-is-enabled-spec =
+pub is_enabled_spec : {M : Type 1} → statement M
+is_enabled_spec =
     tie.close
     (tie.spec
-    mul-word
-    add-word
-    mul-word-2
-    element-copy-out-word
-    cast-bit-of
-    bit-of-requires
+    overflow_mul-word
+    overflow_add-word
+    offset_bounds-enable-c
+    bounds-enable-c
+    overflow_cast-i
+    bit_of-requires
     returns)

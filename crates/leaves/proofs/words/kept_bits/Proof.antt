@@ -9,44 +9,44 @@ use Rattle.leaves.proofs.Kept.{kept_cut, kept_first}
 use Rattle.leaves.proofs.words.kept_bits.Statement.{statement}
 use Rattle.leaves.proofs.words.kept_bits.Tie as tie
 
-add-low-bits : tie.Need-overflow-add-low-bits
-add-low-bits c = search rules
+overflow_add-n : tie.Need-overflow_add-n
+overflow_add-n c = search rules
 
-mul-low-bits : tie.Need-overflow-mul-low-bits
-mul-low-bits c = search rules
+overflow_mul-w : tie.Need-overflow_mul-w
+overflow_mul-w c = search rules
 
-sub-low-bits : tie.Need-overflow-sub-low-bits
-sub-low-bits c = search rules
+overflow_sub-n : tie.Need-overflow_sub-n
+overflow_sub-n c = search rules
 
-low-bits-requires : tie.Need-low-bits-requires
-low-bits-requires c κs = search rules
+low_bits-low-requires : tie.Need-low_bits-low-requires
+low_bits-low-requires c κs = search rules
 
-sub-result : tie.Need-overflow-sub-result
-sub-result c = search rules
+overflow_sub-result : tie.Need-overflow_sub-result
+overflow_sub-result c = search rules
 
-returns : tie.Need-returns
-returns c =
-    let n = c.before.before.args.n in
-    let v = c.before.before.args.v in
-    let room : n + 1 - c.before.before.args.w * 32 ≡ n + 1 = omega arith in
-    let low = c.before.low-bits.ensures ∙ ap (λ (m : ℕ). v % 2 ^ m) room in
-    ap (λ (x : ℕ). x - x % 2) low ∙ sym (ap (λ (w : ℕ). kept n w v) c.if1.true ∙ kept_first n v c.before.before.ranges.v.fits)
+returns-then-w-eq0 : tie.Need-returns-then-w-eq0
+returns-then-w-eq0 c =
+    let n = c.args.n in
+    let v = c.args.v in
+    let room : n + 1 - c.args.w * 32 ≡ n + 1 = omega arith in
+    let low = c.low_bits-low.ensures ∙ ap (λ (m : ℕ). v % 2 ^ m) room in
+    ap (λ (x : ℕ). x - x % 2) low ∙ sym (ap (λ (w : ℕ). kept n w v) c.if-w-eq0.true ∙ kept_first n v c.ranges.v.fits)
 
-returns-2 : tie.Need-returns-2
-returns-2 c =
-    let n = c.before.before.args.n in
-    let w = c.before.before.args.w in
-    c.before.low-bits.ensures
-    ∙ sym (kept_cut n w c.before.before.args.v (omega arith) (omega arith) c.before.before.ranges.v.fits)
+returns-else-w-eq0 : tie.Need-returns-else-w-eq0
+returns-else-w-eq0 c =
+    let n = c.args.n in
+    let w = c.args.w in
+    c.low_bits-low.ensures
+    ∙ sym (kept_cut n w c.args.v (omega arith) (omega arith) c.ranges.v.fits)
 
-pub kept-bits-spec : {M : Type 1} → statement M
-kept-bits-spec =
+pub kept_bits_spec : {M : Type 1} → statement M
+kept_bits_spec =
     tie.close
     (tie.spec
-    add-low-bits
-    mul-low-bits
-    sub-low-bits
-    low-bits-requires
-    sub-result
-    returns
-    returns-2)
+    overflow_add-n
+    overflow_mul-w
+    overflow_sub-n
+    low_bits-low-requires
+    overflow_sub-result
+    returns-then-w-eq0
+    returns-else-w-eq0)

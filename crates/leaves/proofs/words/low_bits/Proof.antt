@@ -12,17 +12,17 @@ use Rattle.leaves.proofs.words.low_bits.Tie as tie
 power-requires : tie.Need-power-requires
 power-requires c κs = search rules
 
-rem-result : tie.Need-nonzero-rem-result
-rem-result c = omega (arith, c.power.ensures, pow_pos c.before.before.args.room)
+nonzero_rem-result : tie.Need-nonzero_rem-result
+nonzero_rem-result c = omega (arith, c.power.ensures, pow_pos c.args.room)
 
-cast-result : tie.Need-overflow-cast-result
-cast-result c = omega (arith, mod-le c.before.before.args.v c.power.result, c.before.before.ranges.v)
+overflow_cast-result-then-room-lt32 : tie.Need-overflow_cast-result-then-room-lt32
+overflow_cast-result-then-room-lt32 c = omega (arith, mod-le c.args.v c.power.result, c.ranges.v)
 
-returns : tie.Need-returns
-returns c = ap (λ (x : ℕ). c.before.before.args.v % x) c.power.ensures
+returns-then-room-lt32 : tie.Need-returns-then-room-lt32
+returns-then-room-lt32 c = ap (λ (x : ℕ). c.args.v % x) c.power.ensures
 
-returns-2 : tie.Need-returns-2
-returns-2 c = sym (mod-eq_of_lt (omega (arith, c.before.ranges.v, pow_mono {i = 32} {j = c.before.args.room} c.if1.false)))
+returns-else-room-lt32 : tie.Need-returns-else-room-lt32
+returns-else-room-lt32 c = sym (mod-eq_of_lt (omega (arith, c.ranges.v, pow_mono {i = 32} {j = c.args.room} c.if-room-lt32.false)))
 
-pub low-bits-spec : {M : Type 1} → statement M
-low-bits-spec = tie.close (tie.spec power-requires rem-result cast-result returns returns-2)
+pub low_bits_spec : {M : Type 1} → statement M
+low_bits_spec = tie.close (tie.spec power-requires nonzero_rem-result overflow_cast-result-then-room-lt32 returns-then-room-lt32 returns-else-room-lt32)

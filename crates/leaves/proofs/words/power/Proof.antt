@@ -9,11 +9,11 @@ use lib.Pow.{pow-lt}
 use Rattle.leaves.proofs.words.power.Statement.{statement}
 use Rattle.leaves.proofs.words.power.Tie as tie
 
-shl-result : tie.Need-overflow-shl-result
-shl-result c = search rules
+overflow_shl-result : tie.Need-overflow_shl-result
+overflow_shl-result c = search rules
 
 returns : tie.Need-returns
 returns c = ap (λ (x : ℕ). x % 2 ^ 64) (one-mul (2 ^ c.args.j)) ∙ mod-eq_of_lt (pow-lt {i = c.args.j} {j = 64} (omega arith))
 
-pub power-spec : {M : Type 1} → statement M
-power-spec = tie.close (tie.spec shl-result returns)
+pub power_spec : {M : Type 1} → statement M
+power_spec = tie.close (tie.spec overflow_shl-result returns)

@@ -12,18 +12,18 @@ use Rattle.leaves.proofs.words.reduced.Tie as tie
 power-requires : tie.Need-power-requires
 power-requires c κs = search rules
 
-rem-result : tie.Need-nonzero-rem-result
-rem-result c = omega (arith, c.power.ensures, pow_pos c.before.args.bits)
+nonzero_rem-result : tie.Need-nonzero_rem-result
+nonzero_rem-result c = omega (arith, c.power.ensures, pow_pos c.args.bits)
 
-cast-result : tie.Need-overflow-cast-result
-cast-result c =
-    let a = c.before.args in
+overflow_cast-result-2 : tie.Need-overflow_cast-result-2
+overflow_cast-result-2 c =
+    let a = c.args in
     let small = mod-lt a.v {m = 2 ^ a.bits} (pow_pos a.bits) in
-    let most = pow_mono {i = a.bits} {j = 5} c.before.requires in
+    let most = pow_mono {i = a.bits} {j = 5} c.requires in
     omega (arith, ap (λ (x : ℕ). a.v % x) c.power.ensures, small, most)
 
 returns : tie.Need-returns
-returns c = ap (λ (x : ℕ). c.before.args.v % x) c.power.ensures
+returns c = ap (λ (x : ℕ). c.args.v % x) c.power.ensures
 
-pub reduced-spec : {M : Type 1} → statement M
-reduced-spec = tie.close (tie.spec power-requires rem-result cast-result returns)
+pub reduced_spec : {M : Type 1} → statement M
+reduced_spec = tie.close (tie.spec power-requires nonzero_rem-result overflow_cast-result-2 returns)

@@ -13,52 +13,51 @@ use Rattle.obeying.proofs.command.obey_advance.Statement.{statement}
 use Rattle.obeying.proofs.command.obey_advance.Tie as tie
 
 -- where the check passes, its number is 0
-none : (c : tie.After-enum-told) → let a = c.before.before.before.args in first_of (advance_grounds a.steps a.clock a.ticks) ≡ 0
-none c = sym c.before.before.advance-check.ensures ∙ ap check_number c.enum_told.given.1
+none : (c : tie.In-Passed) → let a = c.args in first_of (advance_grounds a.steps a.clock a.ticks) ≡ 0
+none c = sym c.advance_check-check.ensures ∙ ap check_number c.in-Passed.is
 
-advance-check-requires : tie.Need-advance-check-requires
-advance-check-requires c κs = search rules
+advance_check-check-requires : tie.Need-advance_check-check-requires
+advance_check-check-requires c κs = search rules
 
-enum-known-check : tie.Need-enum-known-check
-enum-known-check c = search rules
+enum_known-check : tie.Need-enum_known-check
+enum_known-check c = search rules
 
 refused-requires : tie.Need-refused-requires
 refused-requires c κs = search rules
 
-enum_told : tie.Need-enum-told
-enum_told c = search rules
+enum_told-1 : tie.Need-enum_told-1
+enum_told-1 c = search rules
 
-add-t7 : tie.Need-overflow-add-t7
-add-t7 c =
-    let a = c.before.before.before.args in
+overflow_add-result : tie.Need-overflow_add-result
+overflow_add-result c =
+    let a = c.args in
     omega (arith, (advance_passed a.steps a.clock a.ticks (none c)).1)
 
-add-t8 : tie.Need-overflow-add-t8
-add-t8 c =
-    let a = c.before.before.before.args in
+overflow_add-result-in-Passed : tie.Need-overflow_add-result-in-Passed
+overflow_add-result-in-Passed c =
+    let a = c.args in
     omega (arith, (advance_passed a.steps a.clock a.ticks (none c)).0)
 
-returns : tie.Need-returns
-returns c =
-    let why = c.before.before.check.given in
-    let a = c.before.before.before.before.before.args in
-    let number = sym c.before.before.before.before.advance-check.ensures ∙ ap check_number why.1 in
-    c.refused.ensures ∙ reply_refused why.0.0 a.clock a.steps (a.clock + a.ticks) Nothing number
+returns-in-Refused : tie.Need-returns-in-Refused
+returns-in-Refused c =
+    let a = c.args in
+    let number = sym c.advance_check-check.ensures ∙ ap check_number c.in-Refused.is in
+    c.refused.ensures ∙ reply_refused c.in-Refused.why a.clock a.steps (a.clock + a.ticks) Nothing number
 
-returns-2 : tie.Need-returns-2
-returns-2 c =
-    let a = c.before.before.before.args in
+returns-in-Passed : tie.Need-returns-in-Passed
+returns-in-Passed c =
+    let a = c.args in
     reply_passed a.clock a.steps (a.clock + a.ticks) Nothing (none c)
 
-pub obey-advance-spec : {M : Type 1} → statement M
-obey-advance-spec =
+pub obey_advance_spec : {M : Type 1} → statement M
+obey_advance_spec =
     tie.close
     (tie.spec
-    advance-check-requires
-    enum-known-check
+    advance_check-check-requires
+    enum_known-check
     refused-requires
-    enum_told
-    add-t7
-    add-t8
-    returns
-    returns-2)
+    enum_told-1
+    overflow_add-result
+    overflow_add-result-in-Passed
+    returns-in-Refused
+    returns-in-Passed)

@@ -15,62 +15,60 @@ use Rattle.obeying.proofs.command.obey_line.Statement.{statement}
 use Rattle.obeying.proofs.command.obey_line.Tie as tie
 
 -- where the check passes, its number is 0, and the source is one of the board
-none : (c : tie.After-enum-told) → let a = c.before.before.before.args in first_of (line_grounds a.steps a.n a.i) ≡ 0
-none c = sym c.before.before.line-check.ensures ∙ ap check_number c.enum_told.given.1
+none : (c : tie.In-Passed) → let a = c.args in first_of (line_grounds a.steps a.n a.i) ≡ 0
+none c = sym c.line_check-check.ensures ∙ ap check_number c.in-Passed.is
 
-below : (c : tie.After-enum-told) → c.before.before.before.args.i < source_room
+below : (c : tie.In-Passed) → c.args.i < source_room
 below c =
-    let s = c.before.before.before in
-    let p = line_passed s.args.steps s.args.n s.args.i (none c) in
-    omega (arith, (source_range s.args.n s.args.i p.1).1, s.requires)
+    let p = line_passed c.args.steps c.args.n c.args.i (none c) in
+    omega (arith, (source_range c.args.n c.args.i p.1).1, c.requires)
 
-line-check-requires : tie.Need-line-check-requires
-line-check-requires c κs = search rules
+line_check-check-requires : tie.Need-line_check-check-requires
+line_check-check-requires c κs = search rules
 
-enum-known-check : tie.Need-enum-known-check
-enum-known-check c = search rules
+enum_known-check : tie.Need-enum_known-check
+enum_known-check c = search rules
 
 refused-requires : tie.Need-refused-requires
 refused-requires c κs = search rules
 
-enum_told : tie.Need-enum-told
-enum_told c = search rules
+enum_told-1 : tie.Need-enum_told-1
+enum_told-1 c = search rules
 
-element-copy-out-set-line : tie.Need-element-copy-out-set-line
-element-copy-out-set-line c = below c
+bounds-kind-s : tie.Need-bounds-kind-s
+bounds-kind-s c = below c.before
 
-set-line-requires : tie.Need-set-line-requires
-set-line-requires c κs = below c.before.before.before.before.before
+set_line-requires : tie.Need-set_line-requires
+set_line-requires c κs = below c.before.before.before.before.before.before
 
-add-t23 : tie.Need-overflow-add-t23
-add-t23 c =
-    let t = c.before.before.before.before.before.before in
-    let a = t.before.before.before.args in
+overflow_add-result : tie.Need-overflow_add-result
+overflow_add-result c =
+    let t = c.before.before.before.before.before.before.before in
+    let a = t.args in
     omega (arith, (line_passed a.steps a.n a.i (none t)).0)
 
-returns : tie.Need-returns
-returns c =
-    let why = c.before.before.check.given in
-    let a = c.before.before.before.before.before.args in
-    let number = sym c.before.before.before.before.line-check.ensures ∙ ap check_number why.1 in
-    (c.refused.ensures ∙ reply_refused why.0.0 a.clock a.steps a.clock Nothing number, stays _ _ why.0.0 number)
+returns-in-Refused : tie.Need-returns-in-Refused
+returns-in-Refused c =
+    let a = c.args in
+    let number = sym c.line_check-check.ensures ∙ ap check_number c.in-Refused.is in
+    (c.refused.ensures ∙ reply_refused c.in-Refused.why a.clock a.steps a.clock Nothing number, stays _ _ c.in-Refused.why number)
 
-returns-2 : tie.Need-returns-2
-returns-2 c =
-    let t = c.before.before.before.before.before.before in
-    let a = t.before.before.before.args in
+returns-in-Passed : tie.Need-returns-in-Passed
+returns-in-Passed c =
+    let t = c.before.before.before.before.before.before.before in
+    let a = t.args in
     (reply_passed a.clock a.steps a.clock Nothing (none t), c.set_line.ensures ∙ goes _ _ (none t))
 
-pub obey-line-spec : {M : Type 1} → statement M
-obey-line-spec =
+pub obey_line_spec : {M : Type 1} → statement M
+obey_line_spec =
     tie.close
     (tie.spec
-    line-check-requires
-    enum-known-check
+    line_check-check-requires
+    enum_known-check
     refused-requires
-    enum_told
-    element-copy-out-set-line
-    set-line-requires
-    add-t23
-    returns
-    returns-2)
+    enum_told-1
+    bounds-kind-s
+    set_line-requires
+    overflow_add-result
+    returns-in-Refused
+    returns-in-Passed)

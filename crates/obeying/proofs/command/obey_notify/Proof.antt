@@ -19,66 +19,64 @@ use Rattle.obeying.proofs.command.obey_notify.Statement.{statement}
 use Rattle.obeying.proofs.command.obey_notify.Tie as tie
 
 -- where the check passes, its number is 0, and the context is one of the board
-none : (c : tie.After-enum-told) → let a = c.before.before.before.args in first_of (context_grounds a.m a.context) ≡ 0
-none c = sym c.before.before.context-check.ensures ∙ ap check_number c.enum_told.given.1
+none : (c : tie.In-Passed) → let a = c.args in first_of (context_grounds a.m a.context) ≡ 0
+none c = sym c.context_check-check.ensures ∙ ap check_number c.in-Passed.is
 
-below : (c : tie.After-enum-told) → c.before.before.before.args.context < context_room
+below : (c : tie.In-Passed) → c.args.context < context_room
 below c =
-    let s = c.before.before.before in
-    omega (arith, context_range s.args.m s.args.context (context_passed s.args.m s.args.context (none c)), s.requires.1)
+    omega (arith, context_range c.args.m c.args.context (context_passed c.args.m c.args.context (none c)), c.requires.1)
 
-context-check-requires : tie.Need-context-check-requires
-context-check-requires c κs = search rules
+context_check-check-requires : tie.Need-context_check-check-requires
+context_check-check-requires c κs = search rules
 
-enum-known-check : tie.Need-enum-known-check
-enum-known-check c = search rules
+enum_known-check : tie.Need-enum_known-check
+enum_known-check c = search rules
 
 refused-requires : tie.Need-refused-requires
 refused-requires c κs = search rules
 
-enum_told : tie.Need-enum-told
-enum_told c = search rules
+enum_told-1 : tie.Need-enum_told-1
+enum_told-1 c = search rules
 
-element-copy-out-limit : tie.Need-element-copy-out-limit
-element-copy-out-limit c = below c
+bounds-threshold-c : tie.Need-bounds-threshold-c
+bounds-threshold-c c = below c.before
 
-is-notified-requires : tie.Need-is-notified-requires
-is-notified-requires c κs = (omega (arith, c.before.before.before.before.requires.0), below c.before)
+is_notified-requires : tie.Need-is_notified-requires
+is_notified-requires c κs = (omega (arith, c.requires.0), below c.before.before)
 
-returns : tie.Need-returns
+returns-in-Refused : tie.Need-returns-in-Refused
 unfolding notify_said
-returns c =
-    let why = c.before.before.check.given in
-    let a = c.before.before.before.before.before.args in
-    let number = sym c.before.before.before.before.context-check.ensures ∙ ap check_number why.1 in
-    c.refused.ensures ∙ ap (λ (k : Said). record { clock = a.clock; steps = a.steps; said = k }) (ap Refused (sym number) ∙ stays _ _ why.0.0 number)
+returns-in-Refused c =
+    let a = c.args in
+    let number = sym c.context_check-check.ensures ∙ ap check_number c.in-Refused.is in
+    c.refused.ensures ∙ ap (λ (k : Said). record { clock = a.clock; steps = a.steps; said = k }) (ap Refused (sym number) ∙ stays _ _ c.in-Refused.why number)
 
-returns-2 : tie.Need-returns-2
+returns-then-is_notified : tie.Need-returns-then-is_notified
 unfolding notify_said
-returns-2 c =
-    let t = c.before.before.before in
-    let a = t.before.before.before.args in
-    let notified = sym {A = ℕ} (cond_so 1 0 (sym c.before.is-notified.ensures ∙ c.if1.true)) in
+returns-then-is_notified c =
+    let t = c.before.before.before.before in
+    let a = t.args in
+    let notified = sym {A = ℕ} (cond_so 1 0 (sym c.is_notified.ensures ∙ c.if-is_notified.true)) in
     ap (λ (k : Said). record { clock = a.clock; steps = a.steps; said = k }) (ap (Value 78) notified ∙ goes _ _ (none t))
 
-returns-3 : tie.Need-returns-3
+returns-else-is_notified : tie.Need-returns-else-is_notified
 unfolding notify_said
-returns-3 c =
-    let t = c.before.before.before in
-    let a = t.before.before.before.args in
-    let not-notified = sym {A = ℕ} (cond_not 1 0 (sym c.before.is-notified.ensures ∙ c.if1.false)) in
+returns-else-is_notified c =
+    let t = c.before.before.before.before in
+    let a = t.args in
+    let not-notified = sym {A = ℕ} (cond_not 1 0 (sym c.is_notified.ensures ∙ c.if-is_notified.false)) in
     ap (λ (k : Said). record { clock = a.clock; steps = a.steps; said = k }) (ap (Value 78) not-notified ∙ goes _ _ (none t))
 
-pub obey-notify-spec : {M : Type 1} → statement M
-obey-notify-spec =
+pub obey_notify_spec : {M : Type 1} → statement M
+obey_notify_spec =
     tie.close
     (tie.spec
-    context-check-requires
-    enum-known-check
+    context_check-check-requires
+    enum_known-check
     refused-requires
-    enum_told
-    element-copy-out-limit
-    is-notified-requires
-    returns
-    returns-2
-    returns-3)
+    enum_told-1
+    bounds-threshold-c
+    is_notified-requires
+    returns-in-Refused
+    returns-then-is_notified
+    returns-else-is_notified)

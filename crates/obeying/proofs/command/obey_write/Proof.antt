@@ -17,8 +17,8 @@ use Rattle.obeying.proofs.command.obey_write.Statement.{statement}
 use Rattle.obeying.proofs.command.obey_write.Tie as tie
 
 -- by what stands at entry: what a write to a register leaves of the settings and of the requests
-abbrev sets-to : tie.Start → Register → Settings
-sets-to s r =
+abbrev sets_to : tie.Start → Register → Settings
+sets_to s r =
     let a = s.args in
     settings_written a.n a.b (settings_of a.priority.now a.enable.now a.threshold.now) r a.v
 
@@ -28,62 +28,61 @@ leaves_in s r =
     requests_written a.n a.enable.now a.kind.now a.clock (requests_of a.stage.now a.line.now a.extra.now a.start.now) r a.v
 
 -- where the check passes, its number is 0, and a step is left
-none : (c : tie.After-enum-told) → let a = c.before.before.before.args in first_of (access_grounds a.steps a.offset) ≡ 0
-none c = sym c.before.before.access-check.ensures ∙ ap check_number c.enum_told.given.1
+none : (c : tie.In-Passed) → let a = c.args in first_of (access_grounds a.steps a.offset) ≡ 0
+none c = sym c.access_check-check.ensures ∙ ap check_number c.in-Passed.is
 
-left : (c : tie.After-enum-told) → c.before.before.before.args.steps < 4294967295
-left c = (step_passed c.before.before.before.args.steps _ (none c)).0
+left : (c : tie.In-Passed) → c.args.steps < 4294967295
+left c = (step_passed c.args.steps _ (none c)).0
 
-access-check-requires : tie.Need-access-check-requires
-access-check-requires c κs = search rules
+access_check-check-requires : tie.Need-access_check-check-requires
+access_check-check-requires c κs = search rules
 
-enum-known-check : tie.Need-enum-known-check
-enum-known-check c = search rules
+enum_known-check : tie.Need-enum_known-check
+enum_known-check c = search rules
 
 refused-requires : tie.Need-refused-requires
 refused-requires c κs = search rules
 
-enum_told : tie.Need-enum-told
-enum_told c = search rules
+enum_told-1 : tie.Need-enum_told-1
+enum_told-1 c = search rules
 
-register-at-requires : tie.Need-register-at-requires
-register-at-requires c κs = search rules
+register_at-requires : tie.Need-register_at-requires
+register_at-requires c κs = search rules
 
 write-requires : tie.Need-write-requires
 write-requires c κs = search rules
 
-add-t27 : tie.Need-overflow-add-t27
-add-t27 c = omega (arith, left c.before.before.before.before.before.before.before.before)
+overflow_add-result : tie.Need-overflow_add-result
+overflow_add-result c = omega (arith, left c.before.before.before.before.before.before.before.before)
 
-returns : tie.Need-returns
-returns c =
-    let why = c.before.before.check.given in
-    let a = c.before.before.before.before.before.args in
-    let number = sym c.before.before.before.before.access-check.ensures ∙ ap check_number why.1 in
-    (c.refused.ensures ∙ reply_refused why.0.0 a.clock a.steps a.clock Nothing number, stays _ _ why.0.0 number, stays _ _ why.0.0 number)
+returns-in-Refused : tie.Need-returns-in-Refused
+returns-in-Refused c =
+    let a = c.args in
+    let number = sym c.access_check-check.ensures ∙ ap check_number c.in-Refused.is in
+    (c.refused.ensures ∙ reply_refused c.in-Refused.why a.clock a.steps a.clock Nothing number, stays _ _ c.in-Refused.why number, stays _ _ c.in-Refused.why number)
 
-returns-2 : tie.Need-returns-2
-returns-2 c =
+returns-in-Passed : tie.Need-returns-in-Passed
+returns-in-Passed c =
     let r = c.before.before.before.before.before.before.before in
     let t = r.before in
-    let s = t.before.before.before in
+    let s = t.before.before in
     let a = s.args in
-    let at = r.register-at.ensures.0 in (
+    let at = r.register_at.ensures.0 in (
       reply_passed a.clock a.steps a.clock Nothing (none t),
-      c.write.ensures.0 ∙ ap (sets-to s) at ∙ goes _ _ (none t),
+      c.write.ensures.0 ∙ ap (sets_to s) at ∙ goes _ _ (none t),
       c.write.ensures.1 ∙ ap (leaves_in s) at ∙ goes _ _ (none t),
     )
 
-pub obey-write-spec : {M : Type 1} → statement M
-obey-write-spec =
+pub obey_write_spec : {M : Type 1} → statement M
+obey_write_spec =
     tie.close
     (tie.spec
-    access-check-requires
-    enum-known-check
+    access_check-check-requires
+    enum_known-check
     refused-requires
-    enum_told
-    register-at-requires
+    enum_told-1
+    register_at-requires
     write-requires
-    add-t27
-    returns
-    returns-2)
+    overflow_add-result
+    returns-in-Refused
+    returns-in-Passed)

@@ -11,70 +11,68 @@ use Rattle.plic.proofs.calls.advance.Statement.{statement}
 use Rattle.plic.proofs.calls.advance.Tie as tie
 
 -- past the first test the state is sound
-is-so : (e : tie.Else1) → So (sound e.before.before.args.state)
-is-so e = tested_true e.before.is-sound.ensures e.if1.false
+is_so : (e : tie.Else-not-is_sound) → So (sound e.args.state)
+is_so e = tested_true e.is_sound.ensures e.if-not-is_sound.false-raw
 
-is-sound-requires : tie.Need-is-sound-requires
-is-sound-requires c κs = search rules
+is_sound-requires : tie.Need-is_sound-requires
+is_sound-requires c κs = search rules
 
 refused-requires : tie.Need-refused-requires
 refused-requires c κs = search rules
 
-returns : tie.Need-returns
+returns-then-not-is_sound : tie.Need-returns-then-not-is_sound
 unfolding values_of
-returns c =
-    let a = c.before.before.before.args in
-    let unsound = tested_false c.before.before.is-sound.ensures c.before.if1.true in
+returns-then-not-is_sound c =
+    let a = c.args in
+    let unsound = tested_false c.is_sound.ensures c.if-not-is_sound.true-raw in
     says-unsound (advance_owns a.state a.ticks) refl c.refused.result unsound c.refused.ensures
 
-advance-check-requires : tie.Need-advance-check-requires
-advance-check-requires c κs = search rules
+advance_check-check-requires : tie.Need-advance_check-check-requires
+advance_check-check-requires c κs = search rules
 
-enum-known-check : tie.Need-enum-known-check
-enum-known-check c = search rules
+enum_known-check : tie.Need-enum_known-check
+enum_known-check c = search rules
 
-refused-requires-2 : tie.Need-refused-requires-2
-refused-requires-2 c κs = search rules
+refused-requires-in-Refused : tie.Need-refused-requires-in-Refused
+refused-requires-in-Refused c κs = search rules
 
-enum_told : tie.Need-enum-told
-enum_told c = search rules
+enum_told-1 : tie.Need-enum_told-1
+enum_told-1 c = search rules
 
-advance-made-requires : tie.Need-advance-made-requires
-advance-made-requires c κs =
-    let e = c.before.before.before in
-    let a = e.before.before.args in
-    let none = found_none c.before.before.advance-check.ensures c.enum_told.given.1 in
+advance_made-requires : tie.Need-advance_made-requires
+advance_made-requires c κs =
+    let a = c.args in
+    let none = found_none c.advance_check-check.ensures c.in-Passed.is in
     advance_passed a.state.steps a.state.clock a.ticks none
 
-returns-2 : tie.Need-returns-2
+returns-in-Refused : tie.Need-returns-in-Refused
 unfolding values_of
-returns-2 c =
-    let d = c.before.before.before.before in
-    let a = d.before.before.before.args in
-    let why = c.before.before.check.given in
-    let number = found_refused d.advance-check.ensures why.1 in
-    says-refused (advance_owns a.state a.ticks) refl why.0.0 c.refused2.result (is-so d.before) number c.refused2.ensures
+returns-in-Refused c =
+    let d = c.before.before in
+    let a = d.args in
+    let number = found_refused d.advance_check-check.ensures c.in-Refused.is in
+    says-refused (advance_owns a.state a.ticks) refl c.in-Refused.why c.refused-in-Refused.result (is_so d.before) number c.refused-in-Refused.ensures
 
-returns-3 : tie.Need-returns-3
+returns-in-Passed : tie.Need-returns-in-Passed
 unfolding values_of
-returns-3 c =
-    let d = c.before.before.before in
-    let a = d.before.before.before.args in
-    let none = found_none d.advance-check.ensures c.before.enum_told.given.1 in
-    says_accepted (advance_owns a.state a.ticks) _ (is-so d.before) none
-    (given_as (advance a.ticks) a.state c.advance-made.result refl refl c.advance-made.ensures)
+returns-in-Passed c =
+    let d = c.before.before in
+    let a = d.args in
+    let none = found_none d.advance_check-check.ensures c.in-Passed.is in
+    says_accepted (advance_owns a.state a.ticks) _ (is_so d.before) none
+    (given_as (advance a.ticks) a.state c.advance_made.result refl refl c.advance_made.ensures)
 
-pub advance-spec : {M : Type 1} → statement M
-advance-spec =
+pub advance_spec : {M : Type 1} → statement M
+advance_spec =
     tie.close
     (tie.spec
-    is-sound-requires
+    is_sound-requires
     refused-requires
-    returns
-    advance-check-requires
-    enum-known-check
-    refused-requires-2
-    enum_told
-    advance-made-requires
-    returns-2
-    returns-3)
+    returns-then-not-is_sound
+    advance_check-check-requires
+    enum_known-check
+    refused-requires-in-Refused
+    enum_told-1
+    advance_made-requires
+    returns-in-Refused
+    returns-in-Passed)

@@ -7,11 +7,11 @@ use Rattle.model.specs.Calls.{is_step, effect, after}
 use Rattle.plic.proofs.calls.advance_made.Statement.{statement}
 use Rattle.plic.proofs.calls.advance_made.Tie as tie
 
-add-next : tie.Need-overflow-add-next
-add-next c = search rules
+overflow_add-next : tie.Need-overflow_add-next
+overflow_add-next c = search rules
 
-add-next-2 : tie.Need-overflow-add-next-2
-add-next-2 c = search rules
+overflow_add-next-2 : tie.Need-overflow_add-next-2
+overflow_add-next-2 c = search rules
 
 given-requires : tie.Need-given-requires
 given-requires c κs = search rules
@@ -20,5 +20,5 @@ returns : tie.Need-returns
 unfolding after effect is_step with_steps with_clock advanced
 returns c = c.given.ensures
 
-pub advance-made-spec : {M : Type 1} → statement M
-advance-made-spec = tie.close (tie.spec add-next add-next-2 given-requires returns)
+pub advance_made_spec : {M : Type 1} → statement M
+advance_made_spec = tie.close (tie.spec overflow_add-next overflow_add-next-2 given-requires returns)

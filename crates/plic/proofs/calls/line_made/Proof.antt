@@ -18,14 +18,14 @@ use Rattle.plic.proofs.calls.line_made.Tie as tie
 below : (s : tie.Start) → s.args.source < source_room
 below s = omega (arith, (source_range s.args.state.shape.sources s.args.source s.requires.1).1, s.requires.0.sound.limits.sources.1)
 
-element-copy-out-set-line : tie.Need-element-copy-out-set-line
-element-copy-out-set-line c = below c.before.before.before.before.before
+bounds-shape-s : tie.Need-bounds-shape-s
+bounds-shape-s c = below c.before.before.before.before.before
 
-set-line-requires : tie.Need-set-line-requires
-set-line-requires c κs = below c.before.before.before.before.before.before.before.before.before.before
+set_line-requires : tie.Need-set_line-requires
+set_line-requires c κs = below c.before.before.before.before.before.before.before.before.before.before
 
-add-next : tie.Need-overflow-add-next
-add-next c = search rules
+overflow_add-next : tie.Need-overflow_add-next
+overflow_add-next c = search rules
 
 given-requires : tie.Need-given-requires
 given-requires c κs = search rules
@@ -33,13 +33,11 @@ given-requires c κs = search rules
 returns : tie.Need-returns
 unfolding after effect is_step with_steps
 returns c =
-    let d = c.before.before in
-    let s = d.before.before.before.before.before.before.before.before.before.before.before in
-    let x = s.args.state in
+    let x = c.args.state in
     c.given.ensures ∙ ap (λ (k : State). record { answer = Value 0; state = with_steps k (x.steps + 1) })
-    (ap (λ (q : Requests). with_written x x.settings q) d.set_line.ensures ∙ line_whole x s.args.source s.args.level)
+    (ap (λ (q : Requests). with_written x x.settings q) c.set_line.ensures ∙ line_whole x c.args.source c.args.level)
 
-pub line-made-spec : {M : Type 1} → statement M
-line-made-spec =
+pub line_made_spec : {M : Type 1} → statement M
+line_made_spec =
     tie.close
-    (tie.spec element-copy-out-set-line set-line-requires add-next given-requires returns)
+    (tie.spec bounds-shape-s set_line-requires overflow_add-next given-requires returns)

@@ -22,27 +22,26 @@ same : (s : State) (c : ℕ) →
 unfolding notified rouses pending_for is_pending request enabled enable_word priority threshold notified_in rouses_in pending_for_in enabled_in
 same s c = refl
 
-cast-n : tie.Need-overflow-cast-n
-cast-n c = search rules
+overflow_cast-n : tie.Need-overflow_cast-n
+overflow_cast-n c = search rules
 
-element-copy-out-threshold : tie.Need-element-copy-out-threshold
-element-copy-out-threshold c = omega (arith, context_range _ _ c.before.requires.1, c.before.requires.0.limits.contexts.1)
+bounds-settings-c : tie.Need-bounds-settings-c
+bounds-settings-c c = omega (arith, context_range _ _ c.requires.1, c.requires.0.limits.contexts.1)
 
-is-notified-requires : tie.Need-is-notified-requires
-is-notified-requires c κs =
-    let s = c.before.before.before.before.before.before in
-    omega (arith, context_range _ _ s.requires.1, s.requires.0.limits.contexts.1, s.requires.0.limits.sources.1)
+is_notified-requires : tie.Need-is_notified-requires
+is_notified-requires c κs =
+    omega (arith, context_range _ _ c.requires.1, c.requires.0.limits.contexts.1, c.requires.0.limits.sources.1)
+
+returns-then-is_notified : tie.Need-returns-then-is_notified
+returns-then-is_notified c =
+    let a = c.args in
+    sym (cond_so 1 0 (sym (c.is_notified.ensures ∙ same a.state a.context) ∙ c.if-is_notified.true))
 
 returns : tie.Need-returns
 returns c =
-    let a = c.before.before.before.before.before.before.before.before.args in
-    sym (cond_so 1 0 (sym (c.before.is-notified.ensures ∙ same a.t1 a.context) ∙ c.if1.true))
+    let a = c.args in
+    sym (cond_not 1 0 (sym (c.is_notified.ensures ∙ same a.state a.context) ∙ c.if-is_notified.false))
 
-returns-2 : tie.Need-returns-2
-returns-2 c =
-    let a = c.before.before.before.before.before.before.before.before.args in
-    sym (cond_not 1 0 (sym (c.before.is-notified.ensures ∙ same a.t1 a.context) ∙ c.if1.false))
-
-pub notified-in-spec : {M : Type 1} → statement M
-notified-in-spec =
-    tie.close (tie.spec cast-n element-copy-out-threshold is-notified-requires returns returns-2)
+pub notified_in_spec : {M : Type 1} → statement M
+notified_in_spec =
+    tie.close (tie.spec overflow_cast-n bounds-settings-c is_notified-requires returns-then-is_notified returns)

@@ -11,70 +11,69 @@ use Rattle.plic.proofs.calls.write.Statement.{statement}
 use Rattle.plic.proofs.calls.write.Tie as tie
 
 -- past the first test the state is sound
-is-so : (e : tie.Else1) → So (sound e.before.before.args.state)
-is-so e = tested_true e.before.is-sound.ensures e.if1.false
+is_so : (e : tie.Else-not-is_sound) → So (sound e.args.state)
+is_so e = tested_true e.is_sound.ensures e.if-not-is_sound.false-raw
 
-is-sound-requires : tie.Need-is-sound-requires
-is-sound-requires c κs = search rules
+is_sound-requires : tie.Need-is_sound-requires
+is_sound-requires c κs = search rules
 
 refused-requires : tie.Need-refused-requires
 refused-requires c κs = search rules
 
-returns : tie.Need-returns
+returns-then-not-is_sound : tie.Need-returns-then-not-is_sound
 unfolding values_of
-returns c =
-    let a = c.before.before.before.args in
-    let unsound = tested_false c.before.before.is-sound.ensures c.before.if1.true in
+returns-then-not-is_sound c =
+    let a = c.args in
+    let unsound = tested_false c.is_sound.ensures c.if-not-is_sound.true-raw in
     says-unsound (write_owns a.state a.offset a.value) refl c.refused.result unsound c.refused.ensures
 
-access-check-requires : tie.Need-access-check-requires
-access-check-requires c κs = search rules
+access_check-check-requires : tie.Need-access_check-check-requires
+access_check-check-requires c κs = search rules
 
-enum-known-check : tie.Need-enum-known-check
-enum-known-check c = search rules
+enum_known-check : tie.Need-enum_known-check
+enum_known-check c = search rules
 
-refused-requires-2 : tie.Need-refused-requires-2
-refused-requires-2 c κs = search rules
+refused-requires-in-Refused : tie.Need-refused-requires-in-Refused
+refused-requires-in-Refused c κs = search rules
 
-enum_told : tie.Need-enum-told
-enum_told c = search rules
+enum_told-1 : tie.Need-enum_told-1
+enum_told-1 c = search rules
 
-write-made-requires : tie.Need-write-made-requires
-write-made-requires c κs =
-    let e = c.before.before.before in
-    let a = e.before.before.args in
-    let none = found_none c.before.before.access-check.ensures c.enum_told.given.1 in
-    ready (is-so e) (step_passed a.state.steps _ none).0
+write_made-requires : tie.Need-write_made-requires
+write_made-requires c κs =
+    let e = c.before.before in
+    let a = e.args in
+    let none = found_none c.access_check-check.ensures c.in-Passed.is in
+    ready (is_so e) (step_passed a.state.steps _ none).0
 
-returns-2 : tie.Need-returns-2
+returns-in-Refused : tie.Need-returns-in-Refused
 unfolding values_of
-returns-2 c =
-    let d = c.before.before.before.before in
-    let a = d.before.before.before.args in
-    let why = c.before.before.check.given in
-    let number = found_refused d.access-check.ensures why.1 in
-    says-refused (write_owns a.state a.offset a.value) refl why.0.0 c.refused2.result (is-so d.before) number c.refused2.ensures
+returns-in-Refused c =
+    let d = c.before.before in
+    let a = d.args in
+    let number = found_refused d.access_check-check.ensures c.in-Refused.is in
+    says-refused (write_owns a.state a.offset a.value) refl c.in-Refused.why c.refused-in-Refused.result (is_so d.before) number c.refused-in-Refused.ensures
 
-returns-3 : tie.Need-returns-3
+returns-in-Passed : tie.Need-returns-in-Passed
 unfolding values_of
-returns-3 c =
-    let d = c.before.before.before in
-    let a = d.before.before.before.args in
-    let none = found_none d.access-check.ensures c.before.enum_told.given.1 in
-    says_accepted (write_owns a.state a.offset a.value) _ (is-so d.before) none
-    (given_as (write a.offset a.value) a.state c.write-made.result refl refl c.write-made.ensures)
+returns-in-Passed c =
+    let d = c.before.before in
+    let a = d.args in
+    let none = found_none d.access_check-check.ensures c.in-Passed.is in
+    says_accepted (write_owns a.state a.offset a.value) _ (is_so d.before) none
+    (given_as (write a.offset a.value) a.state c.write_made.result refl refl c.write_made.ensures)
 
 pub write_spec : {M : Type 1} → statement M
 write_spec =
     tie.close
     (tie.spec
-    is-sound-requires
+    is_sound-requires
     refused-requires
-    returns
-    access-check-requires
-    enum-known-check
-    refused-requires-2
-    enum_told
-    write-made-requires
-    returns-2
-    returns-3)
+    returns-then-not-is_sound
+    access_check-check-requires
+    enum_known-check
+    refused-requires-in-Refused
+    enum_told-1
+    write_made-requires
+    returns-in-Refused
+    returns-in-Passed)

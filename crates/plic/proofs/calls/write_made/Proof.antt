@@ -15,14 +15,14 @@ use Rattle.steps.proofs.Whole.{with_written, write_whole}
 use Rattle.plic.proofs.calls.write_made.Statement.{statement}
 use Rattle.plic.proofs.calls.write_made.Tie as tie
 
-register-at-requires : tie.Need-register-at-requires
-register-at-requires c κs = search rules
+register_at-requires : tie.Need-register_at-requires
+register_at-requires c κs = search rules
 
 write-requires : tie.Need-write-requires
 write-requires c κs = search rules
 
-add-next : tie.Need-overflow-add-next
-add-next c = search rules
+overflow_add-next : tie.Need-overflow_add-next
+overflow_add-next c = search rules
 
 given-requires : tie.Need-given-requires
 given-requires c κs = search rules
@@ -30,14 +30,13 @@ given-requires c κs = search rules
 returns : tie.Need-returns
 unfolding after effect is_step with_steps
 returns c =
-    let did = c.before.before.write in
-    let d = c.before.before.before.before.before.before.before.before.before.before.before.before in
-    let s = d.before.before.before.before.before.before.before.args.t1 in
-    let v = d.before.before.before.before.before.before.before.args.value in
+    let did = c.write in
+    let s = c.args.state in
+    let v = c.args.value in
     let changed = ap₂ (λ (g : Settings) (q : Requests). with_written s g q) did.ensures.0 did.ensures.1 in
-    let state = changed ∙ write_whole s d.register-at.result v ∙ ap (λ (r : Register). after_write s r v) d.register-at.ensures.0 in
+    let state = changed ∙ write_whole s c.register_at.result v ∙ ap (λ (r : Register). after_write s r v) c.register_at.ensures.0 in
     c.given.ensures ∙ ap (λ (k : State). record { answer = Value 0; state = with_steps k (s.steps + 1) }) state
 
-pub write-made-spec : {M : Type 1} → statement M
-write-made-spec =
-    tie.close (tie.spec register-at-requires write-requires add-next given-requires returns)
+pub write_made_spec : {M : Type 1} → statement M
+write_made_spec =
+    tie.close (tie.spec register_at-requires write-requires overflow_add-next given-requires returns)

@@ -9,5 +9,5 @@ returns : tie.Need-returns
 unfolding fresh_in
 returns c = refl
 
-pub fresh-spec : {M : Type 1} → statement M
-fresh-spec = tie.close (tie.spec returns)
+pub fresh_spec : {M : Type 1} → statement M
+fresh_spec = tie.close (tie.spec returns)

@@ -27,53 +27,53 @@ more kinds i h most =
     v : ℕ
     v = get_or kinds i 0
 
-abbrev invariant-loop : tie.invariant-loop
-invariant-loop kinds kind₀ i₀ kind i = (i ≤ length kinds) × (kind ≡ filled kinds i)
+abbrev invariant-loop-i : tie.invariant-loop-i
+invariant-loop-i kinds kind₀ i₀ kind i = (i ≤ length kinds) × (kind ≡ filled kinds i)
 
-abbrev decreases-loop : tie.decreases-loop
-decreases-loop kinds kind₀ i₀ kind i = length kinds - i
+abbrev decreases-loop-i : tie.decreases-loop-i
+decreases-loop-i kinds kind₀ i₀ kind i = length kinds - i
 
-loop-holds : tie.Need-loop-init invariant-loop decreases-loop
-loop-holds c = (omega arith, refl)
+loop-i-init : tie.Need-loop-i-init invariant-loop-i decreases-loop-i
+loop-i-init c = (omega arith, refl)
 
-shared-slice-read-kind : tie.Need-shared-slice-read-kind invariant-loop decreases-loop
-shared-slice-read-kind c = omega arith
+bounds-kinds-i : tie.Need-bounds-kinds-i invariant-loop-i decreases-loop-i
+bounds-kinds-i c = omega arith
 
-add-kind : tie.Need-overflow-add-kind invariant-loop decreases-loop
-add-kind c = omega arith
+overflow_add-kind : tie.Need-overflow_add-kind invariant-loop-i decreases-loop-i
+overflow_add-kind c = omega arith
 
-array-write-kind : tie.Need-array-write-kind invariant-loop decreases-loop
-array-write-kind c = omega arith
+bounds-kind-i : tie.Need-bounds-kind-i invariant-loop-i decreases-loop-i
+bounds-kind-i c = omega arith
 
-add-i : tie.Need-overflow-add-i invariant-loop decreases-loop
-add-i c = omega arith
+overflow_add-i : tie.Need-overflow_add-i invariant-loop-i decreases-loop-i
+overflow_add-i c = omega arith
 
-loop-less : tie.Need-loop-smaller invariant-loop decreases-loop
-loop-less c = omega arith
+loop-i-smaller : tie.Need-loop-i-smaller invariant-loop-i decreases-loop-i
+loop-i-smaller c = omega arith
 
-loop-again : tie.Need-loop-preserved invariant-loop decreases-loop
-loop-again c =
-    let l = c.before.before.loop in
-    let kinds = c.before.before.before.args.kinds.now in
-    (omega arith, ap (λ x. set x (l.i + 1) (get_or kinds l.i 0)) l.invariant.1 ∙ more kinds l.i c.before.loop-test.true c.before.before.before.requires)
+loop-i-preserved : tie.Need-loop-i-preserved invariant-loop-i decreases-loop-i
+loop-i-preserved c =
+    let l = c.loop-i in
+    let kinds = c.args.kinds.now in
+    (omega arith, ap (λ x. set x (l.i + 1) (get_or kinds l.i 0)) l.invariant.1 ∙ more kinds l.i c.loop-i-test.true c.requires)
 
-returns : tie.Need-returns invariant-loop decreases-loop
+returns : tie.Need-returns invariant-loop-i decreases-loop-i
 returns c =
-    let kinds = c.before.before.args.kinds.now in
-    let last : c.before.loop.i ≡ length kinds = omega arith in
-    c.before.loop.invariant.1 ∙ ap (filled kinds) last ∙ ap (λ l. 0 ∷ (l ++ replicate (last_source - length kinds) 0)) (take-length kinds)
+    let kinds = c.args.kinds.now in
+    let last : c.loop-i.i ≡ length kinds = omega arith in
+    c.loop-i.invariant.1 ∙ ap (filled kinds) last ∙ ap (λ l. 0 ∷ (l ++ replicate (last_source - length kinds) 0)) (take-length kinds)
 
-pub kinds-by-source-spec : {M : Type 1} → statement M
-kinds-by-source-spec =
+pub kinds_by_source_spec : {M : Type 1} → statement M
+kinds_by_source_spec =
     tie.close
     (tie.spec
-    invariant-loop
-    decreases-loop
-    loop-holds
-    shared-slice-read-kind
-    add-kind
-    array-write-kind
-    add-i
-    loop-less
-    loop-again
+    invariant-loop-i
+    decreases-loop-i
+    loop-i-init
+    bounds-kinds-i
+    overflow_add-kind
+    bounds-kind-i
+    overflow_add-i
+    loop-i-smaller
+    loop-i-preserved
     returns)

@@ -12,43 +12,43 @@ use Rattle.soundness.proofs.Checking.{Checking, check_begin, check_next, check_a
 use Rattle.plic.proofs.making.kinds_known.Statement.{statement}
 use Rattle.plic.proofs.making.kinds_known.Tie as tie
 
-abbrev invariant-loop : tie.invariant-loop
-invariant-loop kinds i₀ i = Checking (λ k. leb (get_or kinds k 0) 2) (length kinds) i true
+abbrev invariant-loop-i : tie.invariant-loop-i
+invariant-loop-i kinds i₀ i = Checking (λ k. leb (get_or kinds k 0) 2) (length kinds) i true
 
-abbrev decreases-loop : tie.decreases-loop
-decreases-loop kinds i₀ i = length kinds - i
+abbrev decreases-loop-i : tie.decreases-loop-i
+decreases-loop-i kinds i₀ i = length kinds - i
 
-loop-holds : tie.Need-loop-init invariant-loop decreases-loop
-loop-holds c = check_begin _ (length c.args.kinds.now)
+loop-i-init : tie.Need-loop-i-init invariant-loop-i decreases-loop-i
+loop-i-init c = check_begin _ (length c.args.kinds.now)
 
-shared-slice-read-if1 : tie.Need-shared-slice-read-if1 invariant-loop decreases-loop
-shared-slice-read-if1 c = omega arith
+bounds-kinds-i : tie.Need-bounds-kinds-i invariant-loop-i decreases-loop-i
+bounds-kinds-i c = omega arith
 
-returns : tie.Need-returns invariant-loop decreases-loop
-returns c = sym (all_fails _ _ _ c.before.before.loop-test.true (lt-leb _ _ c.if1.true))
+returns-then-kinds-i-gt2 : tie.Need-returns-then-kinds-i-gt2 invariant-loop-i decreases-loop-i
+returns-then-kinds-i-gt2 c = sym (all_fails _ _ _ c.loop-i-test.true (lt-leb _ _ c.if-kinds-i-gt2.true))
 
-add-i : tie.Need-overflow-add-i invariant-loop decreases-loop
-add-i c = omega arith
+overflow_add-i : tie.Need-overflow_add-i invariant-loop-i decreases-loop-i
+overflow_add-i c = omega arith
 
-loop-less : tie.Need-loop-smaller invariant-loop decreases-loop
-loop-less c = omega arith
+loop-i-smaller : tie.Need-loop-i-smaller invariant-loop-i decreases-loop-i
+loop-i-smaller c = omega arith
 
-loop-again : tie.Need-loop-preserved invariant-loop decreases-loop
-loop-again c = check_next _ _ true c.before.before.before.loop.invariant (omega arith) (sym (le-leb _ _ c.if1.false))
+loop-i-preserved : tie.Need-loop-i-preserved invariant-loop-i decreases-loop-i
+loop-i-preserved c = check_next _ _ true c.loop-i.invariant (omega arith) (sym (le-leb _ _ c.if-kinds-i-gt2.false))
 
-returns-2 : tie.Need-returns-2 invariant-loop decreases-loop
-returns-2 c = check_all _ _ c.before.loop.invariant c.loop-test.false
+returns : tie.Need-returns invariant-loop-i decreases-loop-i
+returns c = check_all _ _ c.loop-i.invariant c.loop-i-test.false
 
-pub kinds-known-spec : {M : Type 1} → statement M
-kinds-known-spec =
+pub kinds_known_spec : {M : Type 1} → statement M
+kinds_known_spec =
     tie.close
     (tie.spec
-    invariant-loop
-    decreases-loop
-    loop-holds
-    shared-slice-read-if1
-    returns
-    add-i
-    loop-less
-    loop-again
-    returns-2)
+    invariant-loop-i
+    decreases-loop-i
+    loop-i-init
+    bounds-kinds-i
+    returns-then-kinds-i-gt2
+    overflow_add-i
+    loop-i-smaller
+    loop-i-preserved
+    returns)

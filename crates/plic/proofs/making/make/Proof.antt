@@ -16,11 +16,11 @@ use Rattle.plic.proofs.making.make.Statement.{statement}
 use Rattle.plic.proofs.making.make.Tie as tie
 
 -- past the first test the numbers are within their limits
-limits : (e : tie.Else1) → let a = e.before.before.before.args in So (within_limits a.n a.m a.b)
-limits e = tested_true e.before.within-limits.ensures e.if1.false
+limits : (e : tie.Else-not-within_limits) → let a = e.args in So (within_limits a.n a.m a.b)
+limits e = tested_true e.within_limits.ensures e.if-not-within_limits.false-raw
 
-within-limits-requires : tie.Need-within-limits-requires
-within-limits-requires c κs = search rules
+within_limits-requires : tie.Need-within_limits-requires
+within_limits-requires c κs = search rules
 
 zero-requires : tie.Need-zero-requires
 zero-requires c κs = search rules
@@ -28,50 +28,47 @@ zero-requires c κs = search rules
 refused-requires : tie.Need-refused-requires
 refused-requires c κs = search rules
 
-returns : tie.Need-returns
-returns c =
-    let t = c.before.before in
-    let a = t.before.before.before.args in
-    let outside = and_fails_left _ (tested_false t.before.within-limits.ensures t.if1.true) in
-    says_unmade a.n a.m a.b a.kinds.now c.refused.result _ outside c.refused.ensures c.before.zero.ensures
+returns-then-not-within_limits : tie.Need-returns-then-not-within_limits
+returns-then-not-within_limits c =
+    let a = c.args in
+    let outside = and_fails_left _ (tested_false c.within_limits.ensures c.if-not-within_limits.true-raw) in
+    says_unmade a.n a.m a.b a.kinds.now c.refused.result _ outside c.refused.ensures c.zero.ensures
 
-zero-requires-2 : tie.Need-zero-requires-2
-zero-requires-2 c κs = search rules
+zero-requires-then-kinds-n : tie.Need-zero-requires-then-kinds-n
+zero-requires-then-kinds-n c κs = search rules
 
-refused-requires-2 : tie.Need-refused-requires-2
-refused-requires-2 c κs = search rules
+refused-requires-then-kinds-n : tie.Need-refused-requires-then-kinds-n
+refused-requires-then-kinds-n c κs = search rules
 
-returns-2 : tie.Need-returns-2
+returns-then-kinds-n : tie.Need-returns-then-kinds-n
 unfolding kinds_for
-returns-2 c =
-    let t = c.before.before in
-    let a = t.before.before.before.before.args in
-    let other = and_fails_right (within_limits a.n a.m a.b) (and_fails_left _ (ne_eqb _ _ t.if2.true)) in
-    says_unmade a.n a.m a.b a.kinds.now c.refused2.result _ other c.refused2.ensures c.before.zero2.ensures
+returns-then-kinds-n c =
+    let a = c.args in
+    let other = and_fails_right (within_limits a.n a.m a.b) (and_fails_left _ (ne_eqb _ _ c.if-kinds-n.true)) in
+    says_unmade a.n a.m a.b a.kinds.now c.refused-then-kinds-n.result _ other c.refused-then-kinds-n.ensures c.zero-then-kinds-n.ensures
 
-kinds-known-requires : tie.Need-kinds-known-requires
-kinds-known-requires c κs = search rules
+kinds_known-requires : tie.Need-kinds_known-requires
+kinds_known-requires c κs = search rules
 
-zero-requires-3 : tie.Need-zero-requires-3
-zero-requires-3 c κs = search rules
+zero-requires-then-not-kinds_known : tie.Need-zero-requires-then-not-kinds_known
+zero-requires-then-not-kinds_known c κs = search rules
 
-refused-requires-3 : tie.Need-refused-requires-3
-refused-requires-3 c κs = search rules
+refused-requires-then-not-kinds_known : tie.Need-refused-requires-then-not-kinds_known
+refused-requires-then-not-kinds_known c κs = search rules
 
-returns-3 : tie.Need-returns-3
+returns-then-not-kinds_known : tie.Need-returns-then-not-kinds_known
 unfolding kinds_for
-returns-3 c =
-    let t = c.before.before in
-    let a = t.before.before.before.before.before.before.args in
-    let above = tested_false t.before.kinds-known.ensures t.if3.true in
+returns-then-not-kinds_known c =
+    let a = c.args in
+    let above = tested_false c.kinds_known.ensures c.if-not-kinds_known.true-raw in
     let unknown = and_fails_right (within_limits a.n a.m a.b) (and_fails_right (eqb (length a.kinds.now) a.n) above) in
-    says_unmade a.n a.m a.b a.kinds.now c.refused3.result _ unknown c.refused3.ensures c.before.zero3.ensures
+    says_unmade a.n a.m a.b a.kinds.now c.refused-then-not-kinds_known.result _ unknown c.refused-then-not-kinds_known.ensures c.zero-then-not-kinds_known.ensures
 
-kinds-by-source-requires : tie.Need-kinds-by-source-requires
-kinds-by-source-requires c κs =
+kinds_by_source-kind-requires : tie.Need-kinds_by_source-kind-requires
+kinds_by_source-kind-requires c κs =
     let e = c.before.before.before in
-    let a = e.before.before.before.args in
-    omega (arith, (limits_facts a.n a.m a.b (limits e)).sources.1, c.before.before.if2.false)
+    let a = e.args in
+    omega (arith, (limits_facts a.n a.m a.b (limits e)).sources.1, c.if-kinds-n.false)
 
 fresh-requires : tie.Need-fresh-requires
 fresh-requires c κs = search rules
@@ -79,32 +76,32 @@ fresh-requires c κs = search rules
 given-requires : tie.Need-given-requires
 given-requires c κs = search rules
 
-returns-4 : tie.Need-returns-4
+returns : tie.Need-returns
 unfolding kinds_for shape_of
-returns-4 c =
+returns c =
     let known = c.before.before.before in
     let e = known.before.before.before in
-    let a = e.before.before.before.args in
-    let kinds = and_intro (eq-eqb _ _ known.before.before.if2.false) (tested_true known.before.kinds-known.ensures known.if3.false) in
-    let shape = ap (λ k. fresh_in (record { sources = a.n; contexts = a.m; bits = a.b; kind = k })) c.before.before.kinds-by-source.ensures in
-    says_made a.n a.m a.b a.kinds.now c.given.result _ (and_intro (limits e) kinds) c.given.ensures (c.before.fresh.ensures ∙ shape)
+    let a = e.args in
+    let kinds = and_intro (eq-eqb _ _ known.if-kinds-n.false) (tested_true known.kinds_known.ensures known.if-not-kinds_known.false-raw) in
+    let shape = ap (λ k. fresh_in (record { sources = a.n; contexts = a.m; bits = a.b; kind = k })) c.kinds_by_source-kind.ensures in
+    says_made a.n a.m a.b a.kinds.now c.given.result _ (and_intro (limits e) kinds) c.given.ensures (c.fresh.ensures ∙ shape)
 
 pub make_spec : {M : Type 1} → statement M
 make_spec =
     tie.close
     (tie.spec
-    within-limits-requires
+    within_limits-requires
     zero-requires
     refused-requires
-    returns
-    zero-requires-2
-    refused-requires-2
-    returns-2
-    kinds-known-requires
-    zero-requires-3
-    refused-requires-3
-    returns-3
-    kinds-by-source-requires
+    returns-then-not-within_limits
+    zero-requires-then-kinds-n
+    refused-requires-then-kinds-n
+    returns-then-kinds-n
+    kinds_known-requires
+    zero-requires-then-not-kinds_known
+    refused-requires-then-not-kinds_known
+    returns-then-not-kinds_known
+    kinds_by_source-kind-requires
     fresh-requires
     given-requires
-    returns-4)
+    returns)

@@ -12,5 +12,5 @@ returns : tie.Need-returns
 unfolding zero_state zero_shape
 returns c = c.fresh.ensures
 
-pub zero-spec : {M : Type 1} → statement M
-zero-spec = tie.close (tie.spec fresh-requires returns)
+pub zero_spec : {M : Type 1} → statement M
+zero_spec = tie.close (tie.spec fresh-requires returns)

@@ -18,95 +18,93 @@ use Rattle.plic.proofs.reports.by_time.Statement.{statement}
 use Rattle.plic.proofs.reports.by_time.Tie as tie
 
 -- past the first test the state is sound
-is-so : (e : tie.Else1) → So (sound e.before.before.args.t1)
-is-so e = tested_true e.before.is-sound.ensures e.if1.false
+is_so : (e : tie.Else-not-is_sound) → So (sound e.args.state)
+is_so e = tested_true e.is_sound.ensures e.if-not-is_sound.false-raw
 
 -- the total that is checked is the board's
-own : (k : tie.After-percentile-check) →
-    let a = k.before.before.before.before.before.before.args in
-    check_number k.percentile-check.result ≡ first_of (percentile_grounds a.per-mille (board_waited a.t1.counts))
+own : (k : tie.After-percentile_check-check) →
+    let a = k.args in
+    check_number k.percentile_check-check.result ≡ first_of (percentile_grounds a.per_mille (board_waited a.state.counts))
 unfolding board_waited source_waited
 own k =
-    let d = k.before in
-    let p = d.before.before.before.before.before.args.per-mille in
-    k.percentile-check.ensures ∙ ap (λ (n : ℕ). first_of (percentile_grounds p n)) d.source-total.ensures
+    let p = k.args.per_mille in
+    k.percentile_check-check.ensures ∙ ap (λ (n : ℕ). first_of (percentile_grounds p n)) k.source_total-waited.ensures
 
-is-sound-requires : tie.Need-is-sound-requires
-is-sound-requires c κs = search rules
+is_sound-requires : tie.Need-is_sound-requires
+is_sound-requires c κs = search rules
 
 refused-requires : tie.Need-refused-requires
 refused-requires c κs = search rules
 
-returns : tie.Need-returns
+returns-then-not-is_sound : tie.Need-returns-then-not-is_sound
 unfolding values_of
-returns c =
-    let a = c.before.before.before.args in
-    let unsound = tested_false c.before.before.is-sound.ensures c.before.if1.true in
-    says-unsound (time_owns a.t1 a.per-mille) refl c.refused.result unsound c.refused.ensures
+returns-then-not-is_sound c =
+    let a = c.args in
+    let unsound = tested_false c.is_sound.ensures c.if-not-is_sound.true-raw in
+    says-unsound (time_owns a.state a.per_mille) refl c.refused.result unsound c.refused.ensures
 
-source-total-requires : tie.Need-source-total-requires
-source-total-requires c κs = search rules
+source_total-waited-requires : tie.Need-source_total-waited-requires
+source_total-waited-requires c κs = search rules
 
-percentile-check-requires : tie.Need-percentile-check-requires
-percentile-check-requires c κs = search rules
+percentile_check-check-requires : tie.Need-percentile_check-check-requires
+percentile_check-check-requires c κs = search rules
 
-enum-known-check : tie.Need-enum-known-check
-enum-known-check c = search rules
+enum_known-check : tie.Need-enum_known-check
+enum_known-check c = search rules
 
-refused-requires-2 : tie.Need-refused-requires-2
-refused-requires-2 c κs = search rules
+refused-requires-in-Refused : tie.Need-refused-requires-in-Refused
+refused-requires-in-Refused c κs = search rules
 
-enum_told : tie.Need-enum-told
-enum_told c = search rules
+enum_told-1 : tie.Need-enum_told-1
+enum_told-1 c = search rules
 
-percentile-of-requires : tie.Need-percentile-of-requires
+percentile_of-value-requires : tie.Need-percentile_of-value-requires
 unfolding board_waited source_waited bucket_ticks
-percentile-of-requires c κs =
-    let k = c.before.before.before.before in
+percentile_of-value-requires c κs =
+    let k = c.before.before in
     let d = k.before in
-    let e = d.before.before.before in
-    let a = e.before.before.args in
-    let facts = sound_facts a.t1 (is-so e) in
-    let all = d.source-total.ensures ∙ facts.ticks_booked in
-    let most = percentile_passed a.per-mille (board_waited a.t1.counts) (found_none (own k) c.before.before.enum_told.given.1) in
-    (most, all, omega (arith, d.source-total.ensures, waited_fit a.t1 facts))
+    let e = d.before.before in
+    let a = e.args in
+    let facts = sound_facts a.state (is_so e) in
+    let all = d.source_total-waited.ensures ∙ facts.ticks_booked in
+    let most = percentile_passed a.per_mille (board_waited a.state.counts) (found_none (own k) c.in-Passed.is) in
+    (most, all, omega (arith, d.source_total-waited.ensures, waited_fit a.state facts))
 
 given-requires : tie.Need-given-requires
 given-requires c κs = search rules
 
-returns-2 : tie.Need-returns-2
+returns-in-Refused : tie.Need-returns-in-Refused
 unfolding values_of
-returns-2 c =
-    let k = c.before.before.before.before in
-    let e = k.before.before.before.before in
-    let a = e.before.before.args in
-    let why = c.before.before.check.given in
-    let number = found_refused (own k) why.1 in
-    says-refused (time_owns a.t1 a.per-mille) refl why.0.0 c.refused2.result (is-so e) number c.refused2.ensures
+returns-in-Refused c =
+    let k = c.before.before in
+    let e = k.before.before.before in
+    let a = e.args in
+    let number = found_refused (own k) c.in-Refused.is in
+    says-refused (time_owns a.state a.per_mille) refl c.in-Refused.why c.refused-in-Refused.result (is_so e) number c.refused-in-Refused.ensures
 
-returns-3 : tie.Need-returns-3
+returns-in-Passed : tie.Need-returns-in-Passed
 unfolding values_of after effect is_step bucket_ticks
-returns-3 c =
-    let k = c.before.before.before.before.before.before in
-    let e = k.before.before.before.before in
-    let a = e.before.before.args in
-    let none = found_none (own k) c.before.before.before.before.enum_told.given.1 in
-    says_accepted (time_owns a.t1 a.per-mille) _ (is-so e) none
-    (given_as (by_time a.per-mille) a.t1 c.given.result refl c.before.percentile-of.ensures c.given.ensures)
+returns-in-Passed c =
+    let k = c.before.before.before.before in
+    let e = k.before.before.before in
+    let a = e.args in
+    let none = found_none (own k) c.in-Passed.is in
+    says_accepted (time_owns a.state a.per_mille) _ (is_so e) none
+    (given_as (by_time a.per_mille) a.state c.given.result refl c.percentile_of-value.ensures c.given.ensures)
 
-pub by-time-spec : {M : Type 1} → statement M
-by-time-spec =
+pub by_time_spec : {M : Type 1} → statement M
+by_time_spec =
     tie.close
     (tie.spec
-    is-sound-requires
+    is_sound-requires
     refused-requires
-    returns
-    source-total-requires
-    percentile-check-requires
-    enum-known-check
-    refused-requires-2
-    enum_told
-    percentile-of-requires
+    returns-then-not-is_sound
+    source_total-waited-requires
+    percentile_check-check-requires
+    enum_known-check
+    refused-requires-in-Refused
+    enum_told-1
+    percentile_of-value-requires
     given-requires
-    returns-2
-    returns-3)
+    returns-in-Refused
+    returns-in-Passed)

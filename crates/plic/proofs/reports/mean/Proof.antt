@@ -21,8 +21,8 @@ use Rattle.plic.proofs.reports.mean.Statement.{statement}
 use Rattle.plic.proofs.reports.mean.Tie as tie
 
 -- past the first test the state is sound
-is-so : (e : tie.Else1) → So (sound e.before.before.args.t1)
-is-so e = tested_true e.before.is-sound.ensures e.if1.false
+is_so : (e : tie.Else-not-is_sound) → So (sound e.args.state)
+is_so e = tested_true e.is_sound.ensures e.if-not-is_sound.false-raw
 
 -- the one ground of its own: nothing to divide by
 nothing : (n : ℕ) → n ≡ 0 → first_of (nothing_to_divide n ∷ []) ≡ number_of NothingToDivide
@@ -33,54 +33,52 @@ something : (n : ℕ) → (n ≡ 0 → ⊥) → first_of (nothing_to_divide n �
 unfolding nothing_to_divide
 something n ne = first_miss (nothing_to_divide n) [] (ne_eqb n 0 ne) ∙ first_none
 
-is-sound-requires : tie.Need-is-sound-requires
-is-sound-requires c κs = search rules
+is_sound-requires : tie.Need-is_sound-requires
+is_sound-requires c κs = search rules
+
+returns-then-not-is_sound : tie.Need-returns-then-not-is_sound
+unfolding averaged mean_number mean_values values_of
+returns-then-not-is_sound c =
+    let unsound = tested_false c.is_sound.ensures c.if-not-is_sound.true-raw in
+    sym (refused_as mean _ NotSound (unsound_number (mean_owns c.args.state) unsound))
+
+source_total-claims-requires : tie.Need-source_total-claims-requires
+source_total-claims-requires c κs = search rules
+
+returns-then-claims-eq0 : tie.Need-returns-then-claims-eq0
+unfolding averaged mean_number mean_values values_of board_claims source_claims
+returns-then-claims-eq0 c =
+    let e = c.before.before.before in
+    let s = e.args.state in
+    let none = nothing (board_claims s.counts) (sym c.source_total-claims.ensures ∙ c.if-claims-eq0.true) in
+    sym (refused_as mean s NothingToDivide (own_number (mean_owns s) (is_so e) ∙ none))
+
+source_total-waited-requires : tie.Need-source_total-waited-requires
+source_total-waited-requires c κs = search rules
+
+overflow_cast-result : tie.Need-overflow_cast-result
+unfolding board_claims source_claims
+overflow_cast-result c =
+    let e = c.before.before.before.before.before in
+    omega (arith, c.source_total-claims.ensures, claims_fit e.args.state (sound_facts _ (is_so e)))
 
 returns : tie.Need-returns
-unfolding averaged mean_number mean_values values_of
-returns c =
-    let unsound = tested_false c.before.is-sound.ensures c.if1.true in
-    sym (refused_as mean _ NotSound (unsound_number (mean_owns c.before.before.args.t1) unsound))
-
-source-total-requires : tie.Need-source-total-requires
-source-total-requires c κs = search rules
-
-returns-2 : tie.Need-returns-2
-unfolding averaged mean_number mean_values values_of board_claims source_claims
-returns-2 c =
-    let e = c.before.before.before.before in
-    let s = e.before.before.args.t1 in
-    let none = nothing (board_claims s.counts) (sym c.before.source-total.ensures ∙ c.if2.true) in
-    sym (refused_as mean s NothingToDivide (own_number (mean_owns s) (is-so e) ∙ none))
-
-source-total-requires-2 : tie.Need-source-total-requires-2
-source-total-requires-2 c κs = search rules
-
-cast-t16 : tie.Need-overflow-cast-t16
-unfolding board_claims source_claims
-cast-t16 c =
-    let d = c.before.before.before.before in
-    let e = d.before.before.before in
-    omega (arith, d.source-total.ensures, claims_fit e.before.before.args.t1 (sound_facts _ (is-so e)))
-
-returns-3 : tie.Need-returns-3
 unfolding averaged mean_number mean_values values_of after effect is_step board_claims board_waited source_claims source_waited
-returns-3 c =
-    let d = c.before.before.before.before in
-    let e = d.before.before.before in
-    let s = e.before.before.args.t1 in
-    let some = something (board_claims s.counts) (λ z. c.before.before.before.if2.false (d.source-total.ensures ∙ z)) in
-    says_accepted (mean_owns s) _ (is-so e) some
-    (λ i. record { number = 0; values = c.source-total2.ensures i ∷ d.source-total.ensures i ∷ []; state = s })
+returns c =
+    let e = c.before.before.before.before.before in
+    let s = e.args.state in
+    let some = something (board_claims s.counts) (λ z. c.if-claims-eq0.false (c.source_total-claims.ensures ∙ z)) in
+    says_accepted (mean_owns s) _ (is_so e) some
+    (λ i. record { number = 0; values = c.source_total-waited.ensures i ∷ c.source_total-claims.ensures i ∷ []; state = s })
 
-pub mean-spec : {M : Type 1} → statement M
-mean-spec =
+pub mean_spec : {M : Type 1} → statement M
+mean_spec =
     tie.close
     (tie.spec
-    is-sound-requires
-    returns
-    source-total-requires
-    returns-2
-    source-total-requires-2
-    cast-t16
-    returns-3)
+    is_sound-requires
+    returns-then-not-is_sound
+    source_total-claims-requires
+    returns-then-claims-eq0
+    source_total-waited-requires
+    overflow_cast-result
+    returns)

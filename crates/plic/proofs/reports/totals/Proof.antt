@@ -21,52 +21,50 @@ use Rattle.plic.proofs.reports.totals.Statement.{statement}
 use Rattle.plic.proofs.reports.totals.Tie as tie
 
 -- past the first test the state is sound
-is-so : (e : tie.Else1) → So (sound e.before.before.args.t1)
-is-so e = tested_true e.before.is-sound.ensures e.if1.false
+is_so : (e : tie.Else-not-is_sound) → So (sound e.args.state)
+is_so e = tested_true e.is_sound.ensures e.if-not-is_sound.false-raw
 
-is-sound-requires : tie.Need-is-sound-requires
-is-sound-requires c κs = search rules
+is_sound-requires : tie.Need-is_sound-requires
+is_sound-requires c κs = search rules
+
+returns-then-not-is_sound : tie.Need-returns-then-not-is_sound
+unfolding totalled totals_number totals_values values_of
+returns-then-not-is_sound c =
+    let unsound = tested_false c.is_sound.ensures c.if-not-is_sound.true-raw in
+    sym (refused_as totals _ NotSound (unsound_number (totals_owns c.args.state) unsound))
+
+source_total-claims-requires : tie.Need-source_total-claims-requires
+source_total-claims-requires c κs = search rules
+
+source_total-waited-requires : tie.Need-source_total-waited-requires
+source_total-waited-requires c κs = search rules
+
+open_total-open-requires : tie.Need-open_total-open-requires
+open_total-open-requires c κs = search rules
+
+overflow_cast-result : tie.Need-overflow_cast-result
+unfolding board_claims source_claims
+overflow_cast-result c =
+    let e = c.before.before.before.before.before.before.before in
+    omega (arith, c.source_total-claims.ensures, claims_fit e.args.state (sound_facts _ (is_so e)))
 
 returns : tie.Need-returns
-unfolding totalled totals_number totals_values values_of
-returns c =
-    let unsound = tested_false c.before.is-sound.ensures c.if1.true in
-    sym (refused_as totals _ NotSound (unsound_number (totals_owns c.before.before.args.t1) unsound))
-
-source-total-requires : tie.Need-source-total-requires
-source-total-requires c κs = search rules
-
-source-total-requires-2 : tie.Need-source-total-requires-2
-source-total-requires-2 c κs = search rules
-
-open-total-requires : tie.Need-open-total-requires
-open-total-requires c κs = search rules
-
-cast-t17 : tie.Need-overflow-cast-t17
-unfolding board_claims source_claims
-cast-t17 c =
-    let d = c.before.before.before.before.before.before.before in
-    let e = d.before.before.before in
-    omega (arith, d.source-total.ensures, claims_fit e.before.before.args.t1 (sound_facts _ (is-so e)))
-
-returns-2 : tie.Need-returns-2
 unfolding totalled totals_number totals_values values_of after effect is_step board_claims board_waited board_open source_claims source_waited open_age is_pending request open_age_in
-returns-2 c =
-    let d = c.before.before.before.before.before.before.before in
-    let e = d.before.before.before in
-    let s = e.before.before.args.t1 in
-    let waited = c.before.before.before.before.source-total2.ensures in
-    says_accepted (totals_owns s) _ (is-so e) first_none
-    (λ i. record { number = 0; values = s.clock ∷ d.source-total.ensures i ∷ waited i ∷ c.open-total.ensures i ∷ []; state = s })
+returns c =
+    let e = c.before.before.before.before.before.before.before in
+    let s = e.args.state in
+    let waited = c.source_total-waited.ensures in
+    says_accepted (totals_owns s) _ (is_so e) first_none
+    (λ i. record { number = 0; values = s.clock ∷ c.source_total-claims.ensures i ∷ waited i ∷ c.open_total-open.ensures i ∷ []; state = s })
 
-pub totals-spec : {M : Type 1} → statement M
-totals-spec =
+pub totals_spec : {M : Type 1} → statement M
+totals_spec =
     tie.close
     (tie.spec
-    is-sound-requires
-    returns
-    source-total-requires
-    source-total-requires-2
-    open-total-requires
-    cast-t17
-    returns-2)
+    is_sound-requires
+    returns-then-not-is_sound
+    source_total-claims-requires
+    source_total-waited-requires
+    open_total-open-requires
+    overflow_cast-result
+    returns)

@@ -11,40 +11,40 @@ use native.Mathlib.Nat.{ne_of_lt, not-suc-le-zero}
 use Rattle.plic.proofs.reports.widened.Statement.{statement}
 use Rattle.plic.proofs.reports.widened.Tie as tie
 
-abbrev invariant-loop : tie.invariant-loop
-invariant-loop counts wider₀ k₀ wider k = (k ≤ 33) × (length wider ≡ 33) × ((j : ℕ) → j < k → get_or wider j 0 ≡ get_or counts j 0)
+abbrev invariant-loop-k : tie.invariant-loop-k
+invariant-loop-k counts wider₀ k₀ wider k = (k ≤ 33) × (length wider ≡ 33) × ((j : ℕ) → j < k → get_or wider j 0 ≡ get_or counts j 0)
 
-abbrev decreases-loop : tie.decreases-loop
-decreases-loop counts wider₀ k₀ wider k = 33 - k
+abbrev decreases-loop-k : tie.decreases-loop-k
+decreases-loop-k counts wider₀ k₀ wider k = 33 - k
 
-loop-holds : tie.Need-loop-init invariant-loop decreases-loop
-loop-holds c = (omega arith, refl, λ j h. absurd (not-suc-le-zero h))
+loop-k-init : tie.Need-loop-k-init invariant-loop-k decreases-loop-k
+loop-k-init c = (omega arith, refl, λ j h. absurd (not-suc-le-zero h))
 
-mul_wide : tie.Need-overflow-mul-wide invariant-loop decreases-loop
-mul_wide c = omega arith
+offset_bounds-counts-k : tie.Need-offset_bounds-counts-k invariant-loop-k decreases-loop-k
+offset_bounds-counts-k c = omega arith
 
-element-copy-out-wide : tie.Need-element-copy-out-wide invariant-loop decreases-loop
-element-copy-out-wide c = omega arith
+bounds-counts-k : tie.Need-bounds-counts-k invariant-loop-k decreases-loop-k
+bounds-counts-k c = omega arith
 
-wide-requires : tie.Need-wide-requires invariant-loop decreases-loop
+wide-requires : tie.Need-wide-requires invariant-loop-k decreases-loop-k
 wide-requires c κs = search rules
 
-mul-wider : tie.Need-overflow-mul-wider invariant-loop decreases-loop
-mul-wider c = omega arith
+offset_bounds-wider-k : tie.Need-offset_bounds-wider-k invariant-loop-k decreases-loop-k
+offset_bounds-wider-k c = omega arith
 
-array-write-wider : tie.Need-array-write-wider invariant-loop decreases-loop
-array-write-wider c = omega arith
+bounds-wider-k : tie.Need-bounds-wider-k invariant-loop-k decreases-loop-k
+bounds-wider-k c = omega arith
 
-add-k : tie.Need-overflow-add-k invariant-loop decreases-loop
-add-k c = omega arith
+overflow_add-k : tie.Need-overflow_add-k invariant-loop-k decreases-loop-k
+overflow_add-k c = omega arith
 
-loop-less : tie.Need-loop-smaller invariant-loop decreases-loop
-loop-less c = omega arith
+loop-k-smaller : tie.Need-loop-k-smaller invariant-loop-k decreases-loop-k
+loop-k-smaller c = omega arith
 
-loop-again : tie.Need-loop-preserved invariant-loop decreases-loop
-loop-again c =
-    let l = c.before.before.before.loop in
-    let counts = c.before.before.before.before.args.counts.now in (
+loop-k-preserved : tie.Need-loop-k-preserved invariant-loop-k decreases-loop-k
+loop-k-preserved c =
+    let l = c.loop-k in
+    let counts = c.args.counts.now in (
       omega arith,
       length-set l.wider l.k c.wide.result ∙ l.invariant.1,
       λ j h. up_to (λ j. get_or (set l.wider l.k c.wide.result) j 0 ≡ get_or counts j 0) l.k
@@ -53,24 +53,24 @@ loop-again c =
           j (omega arith),
     )
 
-returns : tie.Need-returns invariant-loop decreases-loop
+returns : tie.Need-returns invariant-loop-k decreases-loop-k
 returns c =
-    let l = c.before.loop in
-    ext_get_or 0 l.wider c.before.before.args.counts.now (l.invariant.1 ∙ sym c.before.before.requires) (λ j h. l.invariant.2 j (omega arith))
+    let l = c.loop-k in
+    ext_get_or 0 l.wider c.args.counts.now (l.invariant.1 ∙ sym c.requires) (λ j h. l.invariant.2 j (omega arith))
 
-pub widened-spec : {M : Type 1} → statement M
-widened-spec =
+pub widened_spec : {M : Type 1} → statement M
+widened_spec =
     tie.close
     (tie.spec
-    invariant-loop
-    decreases-loop
-    loop-holds
-    mul_wide
-    element-copy-out-wide
+    invariant-loop-k
+    decreases-loop-k
+    loop-k-init
+    offset_bounds-counts-k
+    bounds-counts-k
     wide-requires
-    mul-wider
-    array-write-wider
-    add-k
-    loop-less
-    loop-again
+    offset_bounds-wider-k
+    bounds-wider-k
+    overflow_add-k
+    loop-k-smaller
+    loop-k-preserved
     returns)

@@ -9,48 +9,48 @@ use Rattle.replaying.proofs.Ends.{line_feed, line_next, line_over}
 use Rattle.replaying.proofs.lines.last_bytes.Statement.{statement}
 use Rattle.replaying.proofs.lines.last_bytes.Tie as tie
 
-abbrev invariant-loop : tie.invariant-loop
-invariant-loop input from i₀ i = i + line_length (drop i input) ≡ from + line_length (drop from input)
+abbrev invariant-loop-i : tie.invariant-loop-i
+invariant-loop-i input from i₀ i = i + line_length (drop i input) ≡ from + line_length (drop from input)
 
-abbrev decreases-loop : tie.decreases-loop
-decreases-loop input from i₀ i = length input - i
+abbrev decreases-loop-i : tie.decreases-loop-i
+decreases-loop-i input from i₀ i = length input - i
 
-loop-holds : tie.Need-loop-init invariant-loop decreases-loop
-loop-holds c = refl
+loop-i-init : tie.Need-loop-i-init invariant-loop-i decreases-loop-i
+loop-i-init c = refl
 
-shared-slice-read-if1 : tie.Need-shared-slice-read-if1 invariant-loop decreases-loop
-shared-slice-read-if1 c = omega arith
+bounds-input-i : tie.Need-bounds-input-i invariant-loop-i decreases-loop-i
+bounds-input-i c = omega arith
 
-returns : tie.Need-returns invariant-loop decreases-loop
-returns c =
-    let l = c.before.before.before.loop in
-    omega (arith, l.invariant, line_feed c.before.before.before.before.args.input.now l.i c.before.before.loop-test.true c.if1.true)
+returns-then-input-i-eq10 : tie.Need-returns-then-input-i-eq10 invariant-loop-i decreases-loop-i
+returns-then-input-i-eq10 c =
+    let l = c.loop-i in
+    omega (arith, l.invariant, line_feed c.args.input.now l.i c.loop-i-test.true c.if-input-i-eq10.true)
 
-add-i : tie.Need-overflow-add-i invariant-loop decreases-loop
-add-i c = omega arith
+overflow_add-i : tie.Need-overflow_add-i invariant-loop-i decreases-loop-i
+overflow_add-i c = omega arith
 
-loop-less : tie.Need-loop-smaller invariant-loop decreases-loop
-loop-less c = omega arith
+loop-i-smaller : tie.Need-loop-i-smaller invariant-loop-i decreases-loop-i
+loop-i-smaller c = omega arith
 
-loop-again : tie.Need-loop-preserved invariant-loop decreases-loop
-loop-again c =
-    let bytes = c.before.before.before.before.args.input.now in
-    let l = c.before.before.before.loop in
-    omega (arith, l.invariant, line_next bytes l.i (l.i + 1) (omega arith) c.before.before.loop-test.true c.if1.false)
+loop-i-preserved : tie.Need-loop-i-preserved invariant-loop-i decreases-loop-i
+loop-i-preserved c =
+    let bytes = c.args.input.now in
+    let l = c.loop-i in
+    omega (arith, l.invariant, line_next bytes l.i (l.i + 1) (omega arith) c.loop-i-test.true c.if-input-i-eq10.false)
 
-returns-2 : tie.Need-returns-2 invariant-loop decreases-loop
-returns-2 c = omega (arith, c.before.loop.invariant, line_over c.before.before.args.input.now c.before.loop.i c.loop-test.false)
+returns : tie.Need-returns invariant-loop-i decreases-loop-i
+returns c = omega (arith, c.loop-i.invariant, line_over c.args.input.now c.loop-i.i c.loop-i-test.false)
 
-pub last-bytes-spec : {M : Type 1} → statement M
-last-bytes-spec =
+pub last_bytes_spec : {M : Type 1} → statement M
+last_bytes_spec =
     tie.close
     (tie.spec
-    invariant-loop
-    decreases-loop
-    loop-holds
-    shared-slice-read-if1
-    returns
-    add-i
-    loop-less
-    loop-again
-    returns-2)
+    invariant-loop-i
+    decreases-loop-i
+    loop-i-init
+    bounds-input-i
+    returns-then-input-i-eq10
+    overflow_add-i
+    loop-i-smaller
+    loop-i-preserved
+    returns)

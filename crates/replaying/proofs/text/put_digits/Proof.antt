@@ -10,93 +10,93 @@ use Rattle.replaying.proofs.Print.{digits_one, length_one, length_more, last_fir
 use Rattle.replaying.proofs.text.put_digits.Statement.{statement}
 use Rattle.replaying.proofs.text.put_digits.Tie as tie
 
-abbrev invariant-loop : tie.invariant-loop
-invariant-loop v output₀ at end rest₀ last₀ output rest last =
+abbrev invariant-loop-rest : tie.invariant-loop-rest
+invariant-loop-rest v output₀ at end rest₀ last₀ output rest last =
     (last ≡ at + length (digits rest)) × (sets output at (digits rest) ≡ sets output₀ at (digits v))
     × (length output ≡ length output₀) × (last ≤ length output₀) × (rest ≤ v)
 
-abbrev decreases-loop : tie.decreases-loop
-decreases-loop v output₀ at end rest₀ last₀ output rest last = rest
+abbrev decreases-loop-rest : tie.decreases-loop-rest
+decreases-loop-rest v output₀ at end rest₀ last₀ output rest last = rest
 
-width-requires : tie.Need-width-requires invariant-loop decreases-loop
+width-requires : tie.Need-width-requires invariant-loop-rest decreases-loop-rest
 width-requires c κs = tt
 
-add-end : tie.Need-overflow-add-end invariant-loop decreases-loop
-add-end c = omega (arith, c.width.ensures, c.before.before.requires)
+overflow_add-end : tie.Need-overflow_add-end invariant-loop-rest decreases-loop-rest
+overflow_add-end c = omega (arith, c.width.ensures, c.requires)
 
-loop-holds : tie.Need-loop-init invariant-loop decreases-loop
-loop-holds c = (
-  ap (λ (k : ℕ). c.before.before.args.at + k) c.width.ensures,
+loop-rest-init : tie.Need-loop-rest-init invariant-loop-rest decreases-loop-rest
+loop-rest-init c = (
+  ap (λ (k : ℕ). c.args.at + k) c.width.ensures,
   refl,
   refl,
-  omega (arith, c.width.ensures, c.before.before.requires),
+  omega (arith, c.width.ensures, c.requires),
   omega arith,
 )
 
-sub-last : tie.Need-overflow-sub-last invariant-loop decreases-loop
-sub-last c = omega (arith, length_more c.before.loop.rest c.loop-test.true (omega arith))
+overflow_sub-last : tie.Need-overflow_sub-last invariant-loop-rest decreases-loop-rest
+overflow_sub-last c = omega (arith, length_more c.loop-rest.rest c.loop-rest-test.true (omega arith))
 
-cast-output : tie.Need-overflow-cast-output invariant-loop decreases-loop
-cast-output c = omega arith
+overflow_cast-output : tie.Need-overflow_cast-output invariant-loop-rest decreases-loop-rest
+overflow_cast-output c = omega arith
 
-add-output : tie.Need-overflow-add-output invariant-loop decreases-loop
-add-output c = omega arith
+overflow_add-output : tie.Need-overflow_add-output invariant-loop-rest decreases-loop-rest
+overflow_add-output c = omega arith
 
-slice-write-output : tie.Need-slice-write-output invariant-loop decreases-loop
-slice-write-output c = omega (arith, length_more c.before.loop.rest c.loop-test.true (omega arith))
+bounds-output-last : tie.Need-bounds-output-last invariant-loop-rest decreases-loop-rest
+bounds-output-last c = omega (arith, length_more c.loop-rest.rest c.loop-rest-test.true (omega arith))
 
-loop-less : tie.Need-loop-smaller invariant-loop decreases-loop
-loop-less c = omega arith
+loop-rest-smaller : tie.Need-loop-rest-smaller invariant-loop-rest decreases-loop-rest
+loop-rest-smaller c = omega arith
 
-loop-again : tie.Need-loop-preserved invariant-loop decreases-loop
-loop-again c =
-    let a = c.before.before.before.before.args in
-    let l = c.before.loop in
-    let more = length_more l.rest c.loop-test.true (omega arith) in (
+loop-rest-preserved : tie.Need-loop-rest-preserved invariant-loop-rest decreases-loop-rest
+loop-rest-preserved c =
+    let a = c.args in
+    let l = c.loop-rest in
+    let more = length_more l.rest c.loop-rest-test.true (omega arith) in (
       omega arith,
-      last_first l.output a.at l.rest (l.last - 1) c.loop-test.true (omega arith) (omega arith) ∙ l.invariant.1,
+      last_first l.output a.at l.rest (l.last - 1) c.loop-rest-test.true (omega arith) (omega arith) ∙ l.invariant.1,
       length-set l.output (l.last - 1) (48 + l.rest % 10) ∙ l.invariant.2,
       omega arith,
       omega arith,
     )
 
-cast-output-2 : tie.Need-overflow-cast-output-2 invariant-loop decreases-loop
-cast-output-2 c = omega arith
+overflow_cast-output-2 : tie.Need-overflow_cast-output-2 invariant-loop-rest decreases-loop-rest
+overflow_cast-output-2 c = omega arith
 
-add-output-2 : tie.Need-overflow-add-output-2 invariant-loop decreases-loop
-add-output-2 c = omega arith
+overflow_add-output-2 : tie.Need-overflow_add-output-2 invariant-loop-rest decreases-loop-rest
+overflow_add-output-2 c = omega arith
 
-slice-write-output-2 : tie.Need-slice-write-output-2 invariant-loop decreases-loop
-slice-write-output-2 c = omega (arith, length_one c.before.loop.rest c.loop-test.false)
+bounds-output-at : tie.Need-bounds-output-at invariant-loop-rest decreases-loop-rest
+bounds-output-at c = omega (arith, length_one c.loop-rest.rest c.loop-rest-test.false)
 
-same_length : tie.Need-same-length invariant-loop decreases-loop
-same_length c = length-set c.before.loop.output c.before.before.before.before.args.at (48 + c.before.loop.rest) ∙ c.before.loop.invariant.2
+shape_of-output : tie.Need-shape_of-output invariant-loop-rest decreases-loop-rest
+shape_of-output c = length-set c.loop-rest.output c.args.at (48 + c.loop-rest.rest) ∙ c.loop-rest.invariant.2
 
-returns : tie.Need-returns invariant-loop decreases-loop
+returns : tie.Need-returns invariant-loop-rest decreases-loop-rest
 returns c =
-    let a = c.before.before.before.before.args in
-    let l = c.before.loop in record {
-      bytes = ap (sets l.output a.at) (sym (digits_one l.rest c.loop-test.false)) ∙ l.invariant.1;
-      place = ap (λ (k : ℕ). a.at + k) c.before.before.width.ensures;
+    let a = c.args in
+    let l = c.loop-rest in record {
+      bytes = ap (sets l.output a.at) (sym (digits_one l.rest c.loop-rest-test.false)) ∙ l.invariant.1;
+      place = ap (λ (k : ℕ). a.at + k) c.width.ensures;
     }
 
-pub put-digits-spec : {M : Type 1} → statement M
-put-digits-spec =
+pub put_digits_spec : {M : Type 1} → statement M
+put_digits_spec =
     tie.close
     (tie.spec
-    invariant-loop
-    decreases-loop
+    invariant-loop-rest
+    decreases-loop-rest
     width-requires
-    add-end
-    loop-holds
-    sub-last
-    cast-output
-    add-output
-    slice-write-output
-    loop-less
-    loop-again
-    cast-output-2
-    add-output-2
-    slice-write-output-2
-    same_length
+    overflow_add-end
+    loop-rest-init
+    overflow_sub-last
+    overflow_cast-output
+    overflow_add-output
+    bounds-output-last
+    loop-rest-smaller
+    loop-rest-preserved
+    overflow_cast-output-2
+    overflow_add-output-2
+    bounds-output-at
+    shape_of-output
     returns)

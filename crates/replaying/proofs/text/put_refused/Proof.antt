@@ -10,46 +10,43 @@ use Rattle.replaying.proofs.text.put_refused.Statement.{statement}
 use Rattle.replaying.proofs.text.put_refused.Tie as tie
 
 -- the places before a later one
-abbrev entry : tie.After-put-text → tie.Start
-entry c = c.before.before.before.before
+abbrev entry : tie.After-put_text-from → tie.Start
+entry c = c.before.before.before.before.before
 
-abbrev word : tie.After-put-digits → tie.After-put-text
+abbrev word : tie.After-put_digits-end → tie.After-put_text-from
 word c = c.before.before.before.before.before
 
 abbrev refusedWord : List ℕ
 refusedWord = 114 ∷ 101 ∷ 102 ∷ 117 ∷ 115 ∷ 101 ∷ 100 ∷ 32 ∷ []
 
 -- what stands in the output after the word, and after the number
-word-put : (c : tie.After-put-text) →
-    Reaching (entry c).args.output.now c.put-text.new.1.0 (entry c).args.at c.put-text.result 8 refusedWord
-word-put c = reaches 8 (omega arith) c.put-text.ensures
+word_put : (c : tie.After-put_text-from) →
+    Reaching (entry c).args.output.now c.put_text-from.new.output (entry c).args.at c.put_text-from.result 8 refusedWord
+word_put c = reaches 8 (omega arith) c.put_text-from.ensures
 
-number_put : (c : tie.After-put-digits) → let s = entry (word c) in
-    Reaching s.args.output.now c.put-digits.new.1.0 s.args.at c.put-digits.result 18 (refusedWord ++ digits s.args.number)
-number_put c = reaching_then (word-put (word c)) (narrow_reaches c.before.before.wide.ensures c.put-digits.ensures)
+number_put : (c : tie.After-put_digits-end) → let s = entry (word c) in
+    Reaching s.args.output.now c.put_digits-end.new.output s.args.at c.put_digits-end.result 18 (refusedWord ++ digits s.args.number)
+number_put c = reaching_then (word_put (word c)) (narrow_reaches c.wide.ensures c.put_digits-end.ensures)
 
-slice-aggregate-put-text : tie.Need-slice-aggregate-put-text
-slice-aggregate-put-text c = search rules
-
-put-text-requires : tie.Need-put-text-requires
-put-text-requires c κs = search rules
+put_text-from-requires : tie.Need-put_text-from-requires
+put_text-from-requires c κs = search rules
 
 wide-requires : tie.Need-wide-requires
 wide-requires c κs = search rules
 
-put-digits-requires : tie.Need-put-digits-requires
-put-digits-requires c κs =
-    let p = word-put c.before.before.before.before in
-    omega (arith, p.far, p.long, digits_narrow c.before.wide.result c.before.wide.ensures.1)
+put_digits-end-requires : tie.Need-put_digits-end-requires
+put_digits-end-requires c κs =
+    let p = word_put c.before.before.before.before in
+    omega (arith, p.far, p.long, digits_narrow c.wide.result c.wide.ensures.1)
 
-slice-write-output : tie.Need-slice-write-output
-slice-write-output c = let p = number_put c.before.before in omega (arith, p.far, p.long)
+bounds-output-end : tie.Need-bounds-output-end
+bounds-output-end c = let p = number_put c.before.before in omega (arith, p.far, p.long)
 
-add-result : tie.Need-overflow-add-result
-add-result c = let p = number_put c.before.before in omega (arith, p.far)
+overflow_add-result : tie.Need-overflow_add-result
+overflow_add-result c = let p = number_put c.before.before in omega (arith, p.far)
 
-same_length : tie.Need-same-length
-same_length c = (reaching_line (number_put c.before.before)).long
+shape_of-output : tie.Need-shape_of-output
+shape_of-output c = (reaching_line (number_put c.before.before)).long
 
 returns : tie.Need-returns
 unfolding refused_line
@@ -57,15 +54,14 @@ returns c =
     let p = reaching_line (number_put c.before.before) in
     (p.written, omega (arith, p.far))
 
-pub put-refused-spec : {M : Type 1} → statement M
-put-refused-spec =
+pub put_refused_spec : {M : Type 1} → statement M
+put_refused_spec =
     tie.close
     (tie.spec
-    slice-aggregate-put-text
-    put-text-requires
+    put_text-from-requires
     wide-requires
-    put-digits-requires
-    slice-write-output
-    add-result
-    same_length
+    put_digits-end-requires
+    bounds-output-end
+    overflow_add-result
+    shape_of-output
     returns)

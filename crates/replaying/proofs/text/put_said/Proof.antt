@@ -18,71 +18,71 @@ put_as : {said known : Said} {l out : List ℕ} {at end : ℕ} → said ≡ know
     record { bytes = out; end = end } ≡ put 20 (said_bytes said) l at
 put_as {l = l} {out} {at} {end} e h w = put_written 20 h (subst (λ (s : Said). Written l out at end (said_bytes s)) (sym e) w)
 
-returns : tie.Need-returns
-returns c =
-    let a = c.before.before.args in
+returns-then-output-lt20 : tie.Need-returns-then-output-lt20
+returns-then-output-lt20 c =
+    let a = c.args in
     (put_nothing a.output.now a.at 20 (said_bytes a.said) (omega arith), omega arith)
 
-sub-if2 : tie.Need-overflow-sub-if2
-sub-if2 c = search rules
+overflow_sub-output : tie.Need-overflow_sub-output
+overflow_sub-output c = search rules
 
-returns-2 : tie.Need-returns-2
-returns-2 c =
-    let a = c.before.before.before.args in
+returns-then-output-at : tie.Need-returns-then-output-at
+returns-then-output-at c =
+    let a = c.args in
     (put_nothing a.output.now a.at 20 (said_bytes a.said) (omega arith), omega arith)
 
-enum_told : tie.Need-enum-told
-enum_told c = search rules
+enum_told-1 : tie.Need-enum_told-1
+enum_told-1 c = search rules
 
-enum-known-said : tie.Need-enum-known-said
-enum-known-said c = search rules
+enum_known-said : tie.Need-enum_known-said
+enum_known-said c = search rules
 
-put-value-requires : tie.Need-put-value-requires
-put-value-requires c κs = search rules
+put_value-requires : tie.Need-put_value-requires
+put_value-requires c κs = search rules
 
-enum-known-said-2 : tie.Need-enum-known-said-2
-enum-known-said-2 c = search rules
+enum_known-said-in-Refused-1 : tie.Need-enum_known-said-in-Refused-1
+enum_known-said-in-Refused-1 c = search rules
 
-put-refused-requires : tie.Need-put-refused-requires
-put-refused-requires c κs = search rules
+put_refused-requires : tie.Need-put_refused-requires
+put_refused-requires c κs = search rules
 
-returns-3 : tie.Need-returns-3
+returns-in-Nothing : tie.Need-returns-in-Nothing
 unfolding said_bytes
-returns-3 c =
-    (put_as c.enum_told.given.1 (omega arith) (record { bytes = refl; place = sym (add-zero _) }), omega arith)
+returns-in-Nothing c =
+    (put_as c.in-Nothing.is (omega arith) (record { bytes = refl; place = sym (add-zero _) }), omega arith)
 
-same_length : tie.Need-same-length
-same_length c = search rules
+shape_of-output-in-Value : tie.Need-shape_of-output-in-Value
+shape_of-output-in-Value c = search rules
 
-returns-4 : tie.Need-returns-4
+returns-in-Value : tie.Need-returns-in-Value
 unfolding said_bytes
-returns-4 c =
-    let call = c.before.before.put-value in
-    (put_as c.before.before.before.before.before.said.given.1 (omega arith) call.ensures.0, call.ensures.1)
+returns-in-Value c =
+    let call = c.put_value in
+    (put_as c.in-Value.is (omega arith) call.ensures.0, call.ensures.1)
 
-same-length-2 : tie.Need-same-length-2
-same-length-2 c = search rules
+shape_of-output-in-Refused : tie.Need-shape_of-output-in-Refused
+shape_of-output-in-Refused c = search rules
 
-returns-5 : tie.Need-returns-5
+returns-in-Refused : tie.Need-returns-in-Refused
 unfolding said_bytes
-returns-5 c =
-    let call = c.before.before.Put-refused in
-    (put_as c.before.before.before.before.before.said2.given.1 (omega arith) call.ensures.0, call.ensures.1)
+returns-in-Refused c =
+    let call = c.put_refused in
+    (put_as c.in-Refused.is (omega arith) call.ensures.0, call.ensures.1)
 
-pub put-said-spec : {M : Type 1} → statement M
-put-said-spec =
+pub put_said_spec : {M : Type 1} → statement M
+put_said_spec =
     tie.close
     (tie.spec
-    returns
-    sub-if2
-    returns-2
-    enum_told
-    enum-known-said
-    put-value-requires
-    enum-known-said-2
-    put-refused-requires
-    returns-3
-    same_length
-    returns-4
-    same-length-2
-    returns-5)
+    returns-then-output-lt20
+    overflow_sub-output
+    returns-then-output-at
+    enum_told-1
+    enum_known-said
+    put_value-requires
+    enum_known-said-in-Refused-1
+    put_refused-requires
+    returns-in-Nothing
+    shape_of-output-in-Value
+    returns-in-Value
+    shape_of-output-in-Refused
+    returns-in-Refused)

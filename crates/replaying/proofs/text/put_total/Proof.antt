@@ -6,20 +6,20 @@ use borrow.Author.Rules.{rules}
 use Rattle.replaying.proofs.text.put_total.Statement.{statement}
 use Rattle.replaying.proofs.text.put_total.Tie as tie
 
-put-text-requires : tie.Need-put-text-requires
-put-text-requires c κs = search rules
+put_text-from-requires : tie.Need-put_text-from-requires
+put_text-from-requires c κs = search rules
 
-put-digits-requires : tie.Need-put-digits-requires
-put-digits-requires c κs =
+put_digits-requires : tie.Need-put_digits-requires
+put_digits-requires c κs =
     let d = c.before.before.before in
-    let number = d.before.before.before.before.args.v in
-    omega (arith, digits_wide number (omega arith), d.put-text.ensures.place, written_length d.put-text.ensures)
+    let number = d.args.v in
+    omega (arith, digits_wide number (omega arith), d.put_text-from.ensures.place, written_length d.put_text-from.ensures)
 
-same_length : tie.Need-same-length
-same_length c = search rules
+shape_of-output : tie.Need-shape_of-output
+shape_of-output c = search rules
 
 returns : tie.Need-returns
-returns c = written_then c.before.before.before.before.before.before.put-text.ensures c.before.before.put-digits.ensures
+returns c = written_then c.put_text-from.ensures c.put_digits.ensures
 
-pub put-total-spec : {M : Type 1} → statement M
-put-total-spec = tie.close (tie.spec put-text-requires put-digits-requires same_length returns)
+pub put_total_spec : {M : Type 1} → statement M
+put_total_spec = tie.close (tie.spec put_text-from-requires put_digits-requires shape_of-output returns)

@@ -11,19 +11,19 @@ use Rattle.replaying.proofs.text.put_totals.Statement.{statement}
 use Rattle.replaying.proofs.text.put_totals.Tie as tie
 
 -- the places before a later one
-abbrev entry : tie.After-put-total → tie.Start
-entry c = c.before.before.before.before.before.before
+abbrev entry : tie.After-put_total-first → tie.Start
+entry c = c.before.before.before.before.before.before.before
 
-abbrev first : tie.After-put-total2 → tie.After-put-total
-first c = c.before.before.before.before.before
+abbrev first : tie.After-put_total-second → tie.After-put_total-first
+first c = c.before.before.before.before.before.before
 
-abbrev second : tie.After-put-total3 → tie.After-put-total2
-second c = c.before.before.before.before.before
+abbrev second : tie.After-put_total-third → tie.After-put_total-second
+second c = c.before.before.before.before.before.before
 
-abbrev third : tie.After-put-total4 → tie.After-put-total3
-third c = c.before.before.before.before.before
+abbrev third : tie.After-put_total-end → tie.After-put_total-third
+third c = c.before.before.before.before.before.before
 
-abbrev last : tie.After-slice-known5 → tie.After-put-total4
+abbrev last : tie.After-slice_known-5-1 → tie.After-put_total-end
 last c = c.before.before
 
 -- the words, each with its number, and the line
@@ -62,88 +62,72 @@ bracketed a b c d e = simp append_assoc
 abbrev PutBy : tie.Start → List ℕ → ℕ → ℕ → List ℕ → Type 0
 PutBy s out end most text = Reaching s.args.output.now out s.args.at end most text
 
-clock-put : (c : tie.After-put-total) → PutBy (entry c) c.put-total.new.1.1.0 c.put-total.result 26 (clockPart (entry c))
-clock-put c = word_reaches clockWord (entry c).args.clock (omega arith) c.put-total.ensures
+clock_put : (c : tie.After-put_total-first) → PutBy (entry c) c.put_total-first.new.output c.put_total-first.result 26 (clockPart (entry c))
+clock_put c = word_reaches clockWord (entry c).args.clock (omega arith) c.put_total-first.ensures
 
-claims-put : (c : tie.After-put-total2) → let s = entry (first c) in
-    PutBy s c.put-total2.new.1.1.0 c.put-total2.result 54 (clockPart s ++ claimsPart s)
-claims-put c = reaching_then (clock-put (first c)) (word_reaches claimsWord (entry (first c)).args.claims (omega arith) c.put-total2.ensures)
+claims_put : (c : tie.After-put_total-second) → let s = entry (first c) in
+    PutBy s c.put_total-second.new.output c.put_total-second.result 54 (clockPart s ++ claimsPart s)
+claims_put c = reaching_then (clock_put (first c)) (word_reaches claimsWord (entry (first c)).args.claims (omega arith) c.put_total-second.ensures)
 
-waited-put : (c : tie.After-put-total3) → let s = entry (first (second c)) in
-    PutBy s c.put-total3.new.1.1.0 c.put-total3.result 82 ((clockPart s ++ claimsPart s) ++ waitedPart s)
-waited-put c = reaching_then (claims-put (second c)) (word_reaches waitedWord (entry (first (second c))).args.waited (omega arith) c.put-total3.ensures)
+waited_put : (c : tie.After-put_total-third) → let s = entry (first (second c)) in
+    PutBy s c.put_total-third.new.output c.put_total-third.result 82 ((clockPart s ++ claimsPart s) ++ waitedPart s)
+waited_put c = reaching_then (claims_put (second c)) (word_reaches waitedWord (entry (first (second c))).args.waited (omega arith) c.put_total-third.ensures)
 
-open-put : (c : tie.After-put-total4) → let s = entry (first (second (third c))) in
-    PutBy s c.put-total4.new.1.1.0 c.put-total4.result 108 (((clockPart s ++ claimsPart s) ++ waitedPart s) ++ openPart s)
-open-put c = reaching_then (waited-put (third c)) (word_reaches openWord (entry (first (second (third c)))).args.ages (omega arith) c.put-total4.ensures)
+open_put : (c : tie.After-put_total-end) → let s = entry (first (second (third c))) in
+    PutBy s c.put_total-end.new.output c.put_total-end.result 108 (((clockPart s ++ claimsPart s) ++ waitedPart s) ++ openPart s)
+open_put c = reaching_then (waited_put (third c)) (word_reaches openWord (entry (first (second (third c)))).args.ages (omega arith) c.put_total-end.ensures)
 
-returns : tie.Need-returns
-returns c =
+returns-then-output-lt128 : tie.Need-returns-then-output-lt128
+returns-then-output-lt128 c =
     let s = c.before.before in
     put_nothing s.args.output.now s.args.at 128 (line s) (omega arith)
 
-sub-if2 : tie.Need-overflow-sub-if2
-sub-if2 c = search rules
+overflow_sub-output : tie.Need-overflow_sub-output
+overflow_sub-output c = search rules
 
-returns-2 : tie.Need-returns-2
-returns-2 c =
+returns-then-output-at : tie.Need-returns-then-output-at
+returns-then-output-at c =
     let s = c.before.before.before in
     put_nothing s.args.output.now s.args.at 128 (line s) (omega arith)
 
-slice-aggregate-put-total : tie.Need-slice-aggregate-put-total
-slice-aggregate-put-total c = search rules
+put_total-first-requires : tie.Need-put_total-first-requires
+put_total-first-requires c κs = search rules
 
-put-total-requires : tie.Need-put-total-requires
-put-total-requires c κs = search rules
+put_total-second-requires : tie.Need-put_total-second-requires
+put_total-second-requires c κs = let p = clock_put c.before.before.before.before.before in omega (arith, p.far, p.long)
 
-slice-aggregate-put-total-2 : tie.Need-slice-aggregate-put-total-2
-slice-aggregate-put-total-2 c = search rules
+put_total-third-requires : tie.Need-put_total-third-requires
+put_total-third-requires c κs = let p = claims_put c.before.before.before.before.before in omega (arith, p.far, p.long)
 
-put-total-requires-2 : tie.Need-put-total-requires-2
-put-total-requires-2 c κs = let p = clock-put c.before.before.before.before in omega (arith, p.far, p.long)
+put_total-end-requires : tie.Need-put_total-end-requires
+put_total-end-requires c κs = let p = waited_put c.before.before.before.before.before in omega (arith, p.far, p.long)
 
-slice-aggregate-put-total-3 : tie.Need-slice-aggregate-put-total-3
-slice-aggregate-put-total-3 c = search rules
+bounds-output-end : tie.Need-bounds-output-end
+bounds-output-end c = let p = open_put (last c) in omega (arith, p.far, p.long)
 
-put-total-requires-3 : tie.Need-put-total-requires-3
-put-total-requires-3 c κs = let p = claims-put c.before.before.before.before in omega (arith, p.far, p.long)
+overflow_add-result : tie.Need-overflow_add-result
+overflow_add-result c = let p = open_put (last c) in omega (arith, p.far)
 
-slice-aggregate-put-total-4 : tie.Need-slice-aggregate-put-total-4
-slice-aggregate-put-total-4 c = search rules
+shape_of-output : tie.Need-shape_of-output
+shape_of-output c = (reaching_line (open_put (last c))).long
 
-put-total-requires-4 : tie.Need-put-total-requires-4
-put-total-requires-4 c κs = let p = waited-put c.before.before.before.before in omega (arith, p.far, p.long)
-
-slice-write-output : tie.Need-slice-write-output
-slice-write-output c = let p = open-put (last c) in omega (arith, p.far, p.long)
-
-add-result : tie.Need-overflow-add-result
-add-result c = let p = open-put (last c) in omega (arith, p.far)
-
-same_length : tie.Need-same-length
-same_length c = (reaching_line (open-put (last c))).long
-
-returns-3 : tie.Need-returns-3
+returns : tie.Need-returns
 unfolding totals_line
-returns-3 c =
-    put_written 128 (omega arith) (rw bracketed at (reaching_line (open-put (last c))).written)
+returns c =
+    put_written 128 (omega arith) (rw bracketed at (reaching_line (open_put (last c))).written)
 
-pub put-totals-spec : {M : Type 1} → statement M
-put-totals-spec =
+pub put_totals_spec : {M : Type 1} → statement M
+put_totals_spec =
     tie.close
     (tie.spec
-    returns
-    sub-if2
-    returns-2
-    slice-aggregate-put-total
-    put-total-requires
-    slice-aggregate-put-total-2
-    put-total-requires-2
-    slice-aggregate-put-total-3
-    put-total-requires-3
-    slice-aggregate-put-total-4
-    put-total-requires-4
-    slice-write-output
-    add-result
-    same_length
-    returns-3)
+    returns-then-output-lt128
+    overflow_sub-output
+    returns-then-output-at
+    put_total-first-requires
+    put_total-second-requires
+    put_total-third-requires
+    put_total-end-requires
+    bounds-output-end
+    overflow_add-result
+    shape_of-output
+    returns)

@@ -8,23 +8,23 @@ use Rattle.soundness.specs.Clauses.{sound_context_in}
 use Rattle.soundness.proofs.sound.context_sound.Statement.{statement}
 use Rattle.soundness.proofs.sound.context_sound.Tie as tie
 
-cast-here : tie.Need-overflow-cast-here
-cast-here c = search rules
+overflow_cast-here : tie.Need-overflow_cast-here
+overflow_cast-here c = search rules
 
-element-copy-out-limit : tie.Need-element-copy-out-limit
-element-copy-out-limit c = search rules
+bounds-threshold-c : tie.Need-bounds-threshold-c
+bounds-threshold-c c = search rules
 
-words-zero-requires : tie.Need-words-zero-requires
-words-zero-requires c κs = search rules
+words_zero-zero-requires : tie.Need-words_zero-zero-requires
+words_zero-zero-requires c κs = search rules
 
-words-kept-requires : tie.Need-words-kept-requires
-words-kept-requires c κs = search rules
+words_kept-right-requires : tie.Need-words_kept-right-requires
+words_kept-right-requires c κs = search rules
 
 returns : tie.Need-returns
 unfolding sound_context_in all_of is_context
-returns c = simp (c.before.words-zero.ensures, c.words-kept.ensures, and_assoc, and-true)
+returns c = simp (c.words_zero-zero.ensures, c.words_kept-right.ensures, and_assoc, and-true)
 
-pub context-sound-spec : {M : Type 1} → statement M
-context-sound-spec =
+pub context_sound_spec : {M : Type 1} → statement M
+context_sound_spec =
     tie.close
-    (tie.spec cast-here element-copy-out-limit words-zero-requires words-kept-requires returns)
+    (tie.spec overflow_cast-here bounds-threshold-c words_zero-zero-requires words_kept-right-requires returns)

@@ -8,32 +8,32 @@ use Rattle.soundness.proofs.Checking.{Checking, check_begin, check_next, check_a
 use Rattle.soundness.proofs.sound.contexts_sound.Statement.{statement}
 use Rattle.soundness.proofs.sound.contexts_sound.Tie as tie
 
-abbrev invariant-loop : tie.invariant-loop
-invariant-loop n m most enable threshold sound₀ c₀ sound c = Checking (sound_context_in n m most enable threshold) context_room c sound
+abbrev invariant-loop-c : tie.invariant-loop-c
+invariant-loop-c n m most enable threshold sound₀ c₀ sound c = Checking (sound_context_in n m most enable threshold) context_room c sound
 
-abbrev decreases-loop : tie.decreases-loop
-decreases-loop n m most enable threshold sound₀ c₀ sound c = context_room - c
+abbrev decreases-loop-c : tie.decreases-loop-c
+decreases-loop-c n m most enable threshold sound₀ c₀ sound c = context_room - c
 
-loop-holds : tie.Need-loop-init invariant-loop decreases-loop
-loop-holds c = check_begin _ context_room
+loop-c-init : tie.Need-loop-c-init invariant-loop-c decreases-loop-c
+loop-c-init c = check_begin _ context_room
 
-context-sound-requires : tie.Need-context-sound-requires invariant-loop decreases-loop
-context-sound-requires c κs = omega arith
+context_sound-one-requires : tie.Need-context_sound-one-requires invariant-loop-c decreases-loop-c
+context_sound-one-requires c κs = omega arith
 
-add-c : tie.Need-overflow-add-c invariant-loop decreases-loop
-add-c c = omega arith
+overflow_add-c : tie.Need-overflow_add-c invariant-loop-c decreases-loop-c
+overflow_add-c c = omega arith
 
-loop-less : tie.Need-loop-smaller invariant-loop decreases-loop
-loop-less c = omega arith
+loop-c-smaller : tie.Need-loop-c-smaller invariant-loop-c decreases-loop-c
+loop-c-smaller c = omega arith
 
-loop-again : tie.Need-loop-preserved invariant-loop decreases-loop
-loop-again c =
-    check_next _ context_room c.context-sound.result c.before.before.loop.invariant (omega arith) c.context-sound.ensures
+loop-c-preserved : tie.Need-loop-c-preserved invariant-loop-c decreases-loop-c
+loop-c-preserved c =
+    check_next _ context_room c.context_sound-one.result c.loop-c.invariant (omega arith) c.context_sound-one.ensures
 
-returns : tie.Need-returns invariant-loop decreases-loop
-returns c = check_all _ context_room c.before.loop.invariant c.loop-test.false
+returns : tie.Need-returns invariant-loop-c decreases-loop-c
+returns c = check_all _ context_room c.loop-c.invariant c.loop-c-test.false
 
-pub contexts-sound-spec : {M : Type 1} → statement M
-contexts-sound-spec =
+pub contexts_sound_spec : {M : Type 1} → statement M
+contexts_sound_spec =
     tie.close
-    (tie.spec invariant-loop decreases-loop loop-holds context-sound-requires add-c loop-less loop-again returns)
+    (tie.spec invariant-loop-c decreases-loop-c loop-c-init context_sound-one-requires overflow_add-c loop-c-smaller loop-c-preserved returns)

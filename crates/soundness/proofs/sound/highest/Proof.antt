@@ -11,14 +11,14 @@ use Rattle.soundness.proofs.sound.highest.Tie as tie
 power-requires : tie.Need-power-requires
 power-requires c κs = search rules
 
-sub-result : tie.Need-overflow-sub-result
-sub-result c = omega (arith, c.power.ensures, pow_pos c.before.args.b)
+overflow_sub-result : tie.Need-overflow_sub-result
+overflow_sub-result c = omega (arith, c.power.ensures, pow_pos c.args.b)
 
-cast-result : tie.Need-overflow-cast-result
-cast-result c = omega (arith, c.power.ensures, pow_mono {i = c.before.args.b} {j = 5} c.before.requires)
+overflow_cast-result : tie.Need-overflow_cast-result
+overflow_cast-result c = omega (arith, c.power.ensures, pow_mono {i = c.args.b} {j = 5} c.requires)
 
 returns : tie.Need-returns
 returns c = ap (λ (x : ℕ). x - 1) c.power.ensures
 
-pub highest-spec : {M : Type 1} → statement M
-highest-spec = tie.close (tie.spec power-requires sub-result cast-result returns)
+pub highest_spec : {M : Type 1} → statement M
+highest_spec = tie.close (tie.spec power-requires overflow_sub-result overflow_cast-result returns)

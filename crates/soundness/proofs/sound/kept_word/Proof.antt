@@ -6,14 +6,14 @@ use Rattle.leaves.proofs.Kept.{kept_none}
 use Rattle.soundness.proofs.sound.kept_word.Statement.{statement}
 use Rattle.soundness.proofs.sound.kept_word.Tie as tie
 
-kept-bits-requires : tie.Need-kept-bits-requires
-kept-bits-requires c κs = omega arith
+kept_bits-requires : tie.Need-kept_bits-requires
+kept_bits-requires c κs = omega arith
+
+returns-then-w-n : tie.Need-returns-then-w-n
+returns-then-w-n c = c.kept_bits.ensures
 
 returns : tie.Need-returns
-returns c = c.kept-bits.ensures
+returns c = sym (kept_none _ _ _ (omega arith))
 
-returns-2 : tie.Need-returns-2
-returns-2 c = sym (kept_none _ _ _ (omega arith))
-
-pub kept-word-spec : {M : Type 1} → statement M
-kept-word-spec = tie.close (tie.spec kept-bits-requires returns returns-2)
+pub kept_word_spec : {M : Type 1} → statement M
+kept_word_spec = tie.close (tie.spec kept_bits-requires returns-then-w-n returns)

@@ -26,24 +26,24 @@ zeros : ℕ → ℕ → ℕ → Request → List Bool
 zeros prio claims waited r =
     eqb prio 0 ∷ eqb r.stage 0 ∷ not r.line ∷ eqb r.extra 0 ∷ eqb r.start 0 ∷ eqb claims 0 ∷ eqb waited 0 ∷ []
 
-open-age-requires : tie.Need-open-age-requires
-open-age-requires c κs = search rules
+open_age-age-requires : tie.Need-open_age-age-requires
+open_age-age-requires c κs = search rules
 
-cast-result : tie.Need-overflow-cast-result
-cast-result c = search rules
+overflow_cast-result-2 : tie.Need-overflow_cast-result-2
+overflow_cast-result-2 c = search rules
 
-add-result : tie.Need-overflow-add-result
-add-result c = search rules
+overflow_add-result : tie.Need-overflow_add-result
+overflow_add-result c = search rules
 
 returns : tie.Need-returns
 unfolding sound_source all_zero is_pending is_idle open_age open_age_in rest zeros
 returns c =
     let d = c.before.before.before.before.before.before.before.before.before.before in
-    let a = d.before.before.before.args in
+    let a = d.args in
     let tests = rest a.kind a.here a.most a.clock a.priority a.waited a.r in
     let zero = joined_all (eqb a.kind 0) (zeros a.priority a.claims a.waited a.r) in
-    ap₂ (λ (z : Bool) (g : ℕ). joined (leb a.kind 2) (tests z g)) zero d.open-age.ensures
+    ap₂ (λ (z : Bool) (g : ℕ). joined (leb a.kind 2) (tests z g)) zero d.open_age-age.ensures
     ∙ joined_all (leb a.kind 2) (tests (all_zero a.kind a.priority a.claims a.waited a.r) (open_age a.clock a.r))
 
-pub source-sound-spec : {M : Type 1} → statement M
-source-sound-spec = tie.close (tie.spec open-age-requires cast-result add-result returns)
+pub source_sound_spec : {M : Type 1} → statement M
+source_sound_spec = tie.close (tie.spec open_age-age-requires overflow_cast-result-2 overflow_add-result returns)

@@ -11,47 +11,47 @@ use Rattle.soundness.specs.Clauses.{sound_source_in}
 use Rattle.soundness.proofs.sound.source_sound_at.Statement.{statement}
 use Rattle.soundness.proofs.sound.source_sound_at.Tie as tie
 
-stage-of-requires : tie.Need-stage-of-requires
-stage-of-requires c κs = search rules
+stage_of-requires : tie.Need-stage_of-requires
+stage_of-requires c κs = search rules
 
-element-copy-out-t15 : tie.Need-element-copy-out-t15
-element-copy-out-t15 c = search rules
+bounds-line-i : tie.Need-bounds-line-i
+bounds-line-i c = search rules
 
-element-copy-out-source-sound : tie.Need-element-copy-out-source-sound
-element-copy-out-source-sound c = search rules
+bounds-extra-i : tie.Need-bounds-extra-i
+bounds-extra-i c = search rules
 
-mul-source-sound : tie.Need-overflow-mul-source-sound
-mul-source-sound c = search rules
+offset_bounds-start-i : tie.Need-offset_bounds-start-i
+offset_bounds-start-i c = search rules
 
-element-copy-out-source-sound-2 : tie.Need-element-copy-out-source-sound-2
-element-copy-out-source-sound-2 c = search rules
+bounds-start-i : tie.Need-bounds-start-i
+bounds-start-i c = search rules
 
-element-copy-out-source-sound-3 : tie.Need-element-copy-out-source-sound-3
-element-copy-out-source-sound-3 c = search rules
+bounds-kind-i : tie.Need-bounds-kind-i
+bounds-kind-i c = search rules
 
-element-copy-out-source-sound-4 : tie.Need-element-copy-out-source-sound-4
-element-copy-out-source-sound-4 c = search rules
+bounds-priority-i : tie.Need-bounds-priority-i
+bounds-priority-i c = search rules
 
-mul-source-sound-2 : tie.Need-overflow-mul-source-sound-2
-mul-source-sound-2 c = search rules
+offset_bounds-claims-i : tie.Need-offset_bounds-claims-i
+offset_bounds-claims-i c = search rules
 
-element-copy-out-source-sound-5 : tie.Need-element-copy-out-source-sound-5
-element-copy-out-source-sound-5 c = search rules
+bounds-claims-i : tie.Need-bounds-claims-i
+bounds-claims-i c = search rules
 
-mul-source-sound-3 : tie.Need-overflow-mul-source-sound-3
-mul-source-sound-3 c = search rules
+offset_bounds-waited-i : tie.Need-offset_bounds-waited-i
+offset_bounds-waited-i c = search rules
 
-element-copy-out-source-sound-6 : tie.Need-element-copy-out-source-sound-6
-element-copy-out-source-sound-6 c = search rules
+bounds-waited-i : tie.Need-bounds-waited-i
+bounds-waited-i c = search rules
 
-source-sound-requires : tie.Need-source-sound-requires
-source-sound-requires c κs = search rules
+source_sound-requires : tie.Need-source_sound-requires
+source_sound-requires c κs = search rules
 
 returns : tie.Need-returns
 unfolding sound_source_in is_source
 returns c =
     let d = c.before.before.before.before.before.before.before.before in
-    let a = d.before.args in
+    let a = d.args in
     c.source_sound.ensures
     ∙ ap (λ (k : ℕ). sound_source (get_or a.kind.now a.i 0) (is_source a.n a.i) a.most a.clock (get_or a.priority.now a.i 0)
     (get_or a.claims.now a.i 0) (get_or a.waited.now a.i 0) (record {
@@ -60,22 +60,22 @@ returns c =
       extra = get_or a.extra.now a.i 0;
       start = get_or a.start.now a.i 0;
     }))
-    d.stage-of.ensures
+    d.stage_of.ensures
 
-pub source-sound-at-spec : {M : Type 1} → statement M
-source-sound-at-spec =
+pub source_sound_at_spec : {M : Type 1} → statement M
+source_sound_at_spec =
     tie.close
     (tie.spec
-    stage-of-requires
-    element-copy-out-t15
-    element-copy-out-source-sound
-    mul-source-sound
-    element-copy-out-source-sound-2
-    element-copy-out-source-sound-3
-    element-copy-out-source-sound-4
-    mul-source-sound-2
-    element-copy-out-source-sound-5
-    mul-source-sound-3
-    element-copy-out-source-sound-6
-    source-sound-requires
+    stage_of-requires
+    bounds-line-i
+    bounds-extra-i
+    offset_bounds-start-i
+    bounds-start-i
+    bounds-kind-i
+    bounds-priority-i
+    offset_bounds-claims-i
+    bounds-claims-i
+    offset_bounds-waited-i
+    bounds-waited-i
+    source_sound-requires
     returns)

@@ -8,41 +8,41 @@ use Rattle.soundness.proofs.Checking.{Checking, check_begin, check_next, check_a
 use Rattle.soundness.proofs.sound.sources_sound.Statement.{statement}
 use Rattle.soundness.proofs.sound.sources_sound.Tie as tie
 
-abbrev invariant-loop : tie.invariant-loop
-invariant-loop n most clock kind priority stage line extra start claims waited sound₀ i₀ sound i =
+abbrev invariant-loop-i : tie.invariant-loop-i
+invariant-loop-i n most clock kind priority stage line extra start claims waited sound₀ i₀ sound i =
     Checking (sound_source_in n most clock kind priority stage line extra start claims waited) source_room i sound
 
-abbrev decreases-loop : tie.decreases-loop
-decreases-loop n most clock kind priority stage line extra start claims waited sound₀ i₀ sound i = source_room - i
+abbrev decreases-loop-i : tie.decreases-loop-i
+decreases-loop-i n most clock kind priority stage line extra start claims waited sound₀ i₀ sound i = source_room - i
 
-loop-holds : tie.Need-loop-init invariant-loop decreases-loop
-loop-holds c = check_begin _ source_room
+loop-i-init : tie.Need-loop-i-init invariant-loop-i decreases-loop-i
+loop-i-init c = check_begin _ source_room
 
-source-sound-at-requires : tie.Need-source-sound-at-requires invariant-loop decreases-loop
-source-sound-at-requires c κs = omega arith
+source_sound_at-one-requires : tie.Need-source_sound_at-one-requires invariant-loop-i decreases-loop-i
+source_sound_at-one-requires c κs = omega arith
 
-add-i : tie.Need-overflow-add-i invariant-loop decreases-loop
-add-i c = omega arith
+overflow_add-i : tie.Need-overflow_add-i invariant-loop-i decreases-loop-i
+overflow_add-i c = omega arith
 
-loop-less : tie.Need-loop-smaller invariant-loop decreases-loop
-loop-less c = omega arith
+loop-i-smaller : tie.Need-loop-i-smaller invariant-loop-i decreases-loop-i
+loop-i-smaller c = omega arith
 
-loop-again : tie.Need-loop-preserved invariant-loop decreases-loop
-loop-again c =
-    check_next _ source_room c.source-sound-at.result c.before.before.loop.invariant (omega arith) c.source-sound-at.ensures
+loop-i-preserved : tie.Need-loop-i-preserved invariant-loop-i decreases-loop-i
+loop-i-preserved c =
+    check_next _ source_room c.source_sound_at-one.result c.loop-i.invariant (omega arith) c.source_sound_at-one.ensures
 
-returns : tie.Need-returns invariant-loop decreases-loop
-returns c = check_all _ source_room c.before.loop.invariant c.loop-test.false
+returns : tie.Need-returns invariant-loop-i decreases-loop-i
+returns c = check_all _ source_room c.loop-i.invariant c.loop-i-test.false
 
-pub sources-sound-spec : {M : Type 1} → statement M
-sources-sound-spec =
+pub sources_sound_spec : {M : Type 1} → statement M
+sources_sound_spec =
     tie.close
     (tie.spec
-    invariant-loop
-    decreases-loop
-    loop-holds
-    source-sound-at-requires
-    add-i
-    loop-less
-    loop-again
+    invariant-loop-i
+    decreases-loop-i
+    loop-i-init
+    source_sound_at-one-requires
+    overflow_add-i
+    loop-i-smaller
+    loop-i-preserved
     returns)

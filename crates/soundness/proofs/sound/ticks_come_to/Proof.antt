@@ -23,70 +23,70 @@ none_left left sum total e = same_test _ _
 abbrev at : List ℕ → ℕ → ℕ
 at ticks k = get_or ticks k 0
 
-abbrev invariant-loop : tie.invariant-loop
-invariant-loop ticks total left₀ k₀ left k = (k ≤ bucket_room) × (left + sum_to (λ j. get_or ticks j 0) k ≡ total)
+abbrev invariant-loop-k : tie.invariant-loop-k
+invariant-loop-k ticks total left₀ k₀ left k = (k ≤ bucket_room) × (left + sum_to (λ j. get_or ticks j 0) k ≡ total)
 
-abbrev decreases-loop : tie.decreases-loop
-decreases-loop ticks total left₀ k₀ left k = bucket_room - k
+abbrev decreases-loop-k : tie.decreases-loop-k
+decreases-loop-k ticks total left₀ k₀ left k = bucket_room - k
 
-loop-holds : tie.Need-loop-init invariant-loop decreases-loop
+loop-k-init : tie.Need-loop-k-init invariant-loop-k decreases-loop-k
 unfolding sum_to
-loop-holds c = (omega arith, omega arith)
+loop-k-init c = (omega arith, omega arith)
 
-mul-if1 : tie.Need-overflow-mul-if1 invariant-loop decreases-loop
-mul-if1 c = omega arith
+offset_bounds-ticks-k : tie.Need-offset_bounds-ticks-k invariant-loop-k decreases-loop-k
+offset_bounds-ticks-k c = omega arith
 
-element-copy-out-if1 : tie.Need-element-copy-out-if1 invariant-loop decreases-loop
-element-copy-out-if1 c = omega arith
+bounds-ticks-k : tie.Need-bounds-ticks-k invariant-loop-k decreases-loop-k
+bounds-ticks-k c = omega arith
 
-returns : tie.Need-returns invariant-loop decreases-loop
-returns c =
-    let l = c.before.before.before.loop in
-    let f = at c.before.before.before.before.args.ticks.now in
-    let total = c.before.before.before.before.args.total in
-    let more : total < sum_to f bucket_room = omega (arith, sum_more f l.k, sum_mono f (l.k + 1) bucket_room (omega arith), c.if1.true, l.invariant.1) in
+returns-then-left-ticks : tie.Need-returns-then-left-ticks invariant-loop-k decreases-loop-k
+returns-then-left-ticks c =
+    let l = c.loop-k in
+    let f = at c.args.ticks.now in
+    let total = c.args.total in
+    let more : total < sum_to f bucket_room = omega (arith, sum_more f l.k, sum_mono f (l.k + 1) bucket_room (omega arith), c.if-left-ticks.true, l.invariant.1) in
     sym (ne_eqb total (sum_to f bucket_room) (ne_of_lt more))
 
-mul_left : tie.Need-overflow-mul-left invariant-loop decreases-loop
-mul_left c = omega arith
+offset_bounds-ticks-k-in-loop-k : tie.Need-offset_bounds-ticks-k-in-loop-k invariant-loop-k decreases-loop-k
+offset_bounds-ticks-k-in-loop-k c = omega arith
 
-element-copy-out-left : tie.Need-element-copy-out-left invariant-loop decreases-loop
-element-copy-out-left c = omega arith
+bounds-ticks-k-in-loop-k : tie.Need-bounds-ticks-k-in-loop-k invariant-loop-k decreases-loop-k
+bounds-ticks-k-in-loop-k c = omega arith
 
-sub-left : tie.Need-overflow-sub-left invariant-loop decreases-loop
-sub-left c = omega arith
+overflow_sub-left : tie.Need-overflow_sub-left invariant-loop-k decreases-loop-k
+overflow_sub-left c = omega arith
 
-add-k : tie.Need-overflow-add-k invariant-loop decreases-loop
-add-k c = omega arith
+overflow_add-k : tie.Need-overflow_add-k invariant-loop-k decreases-loop-k
+overflow_add-k c = omega arith
 
-loop-less : tie.Need-loop-smaller invariant-loop decreases-loop
-loop-less c = omega arith
+loop-k-smaller : tie.Need-loop-k-smaller invariant-loop-k decreases-loop-k
+loop-k-smaller c = omega arith
 
-loop-again : tie.Need-loop-preserved invariant-loop decreases-loop
-loop-again c =
-    let l = c.before.before.before.before.loop in
-    (omega arith, omega (arith, sum_more (λ j. get_or c.before.before.before.before.before.args.ticks.now j 0) l.k, c.before.if1.false, l.invariant.1))
+loop-k-preserved : tie.Need-loop-k-preserved invariant-loop-k decreases-loop-k
+loop-k-preserved c =
+    let l = c.loop-k in
+    (omega arith, omega (arith, sum_more (λ j. get_or c.args.ticks.now j 0) l.k, c.if-left-ticks.false, l.invariant.1))
 
-returns-2 : tie.Need-returns-2 invariant-loop decreases-loop
-returns-2 c =
-    let last : c.before.loop.k ≡ bucket_room = omega arith in
-    let f = at c.before.before.args.ticks.now in
-    none_left _ _ _ (ap (λ (k : ℕ). c.before.loop.left + sum_to f k) (sym last) ∙ c.before.loop.invariant.1)
+returns : tie.Need-returns invariant-loop-k decreases-loop-k
+returns c =
+    let last : c.loop-k.k ≡ bucket_room = omega arith in
+    let f = at c.args.ticks.now in
+    none_left _ _ _ (ap (λ (k : ℕ). c.loop-k.left + sum_to f k) (sym last) ∙ c.loop-k.invariant.1)
 
-pub ticks-come-to-spec : {M : Type 1} → statement M
-ticks-come-to-spec =
+pub ticks_come_to_spec : {M : Type 1} → statement M
+ticks_come_to_spec =
     tie.close
     (tie.spec
-    invariant-loop
-    decreases-loop
-    loop-holds
-    mul-if1
-    element-copy-out-if1
-    returns
-    mul_left
-    element-copy-out-left
-    sub-left
-    add-k
-    loop-less
-    loop-again
-    returns-2)
+    invariant-loop-k
+    decreases-loop-k
+    loop-k-init
+    offset_bounds-ticks-k
+    bounds-ticks-k
+    returns-then-left-ticks
+    offset_bounds-ticks-k-in-loop-k
+    bounds-ticks-k-in-loop-k
+    overflow_sub-left
+    overflow_add-k
+    loop-k-smaller
+    loop-k-preserved
+    returns)

@@ -14,5 +14,5 @@ returns c =
     let a = c.args in
     joined_all (leb 1 a.n) (leb a.n last_source ∷ leb 1 a.m ∷ leb a.m 8 ∷ leb 1 a.b ∷ leb a.b 5 ∷ [])
 
-pub within-limits-spec : {M : Type 1} → statement M
-within-limits-spec = tie.close (tie.spec returns)
+pub within_limits_spec : {M : Type 1} → statement M
+within_limits_spec = tie.close (tie.spec returns)

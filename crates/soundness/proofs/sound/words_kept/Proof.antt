@@ -17,65 +17,65 @@ use Rattle.soundness.proofs.sound.words_kept.Tie as tie
 abbrev word : List ℕ → ℕ → ℕ → ℕ
 word enable c k = get_or enable (c * word_room + k) 0
 
-abbrev is-kept : ℕ → List ℕ → ℕ → ℕ → Bool
-is-kept n enable c k = eqb (word enable c k) (kept n k (word enable c k))
+abbrev is_kept : ℕ → List ℕ → ℕ → ℕ → Bool
+is_kept n enable c k = eqb (word enable c k) (kept n k (word enable c k))
 
-abbrev invariant-loop : tie.invariant-loop
-invariant-loop n enable c right₀ w₀ right w = Checking (is-kept n enable c) word_room w right
+abbrev invariant-loop-w : tie.invariant-loop-w
+invariant-loop-w n enable c right₀ w₀ right w = Checking (is_kept n enable c) word_room w right
 
-abbrev decreases-loop : tie.decreases-loop
-decreases-loop n enable c right₀ w₀ right w = word_room - w
+abbrev decreases-loop-w : tie.decreases-loop-w
+decreases-loop-w n enable c right₀ w₀ right w = word_room - w
 
-loop-holds : tie.Need-loop-init invariant-loop decreases-loop
-loop-holds c = check_begin _ word_room
+loop-w-init : tie.Need-loop-w-init invariant-loop-w decreases-loop-w
+loop-w-init c = check_begin _ word_room
 
-mul-word : tie.Need-overflow-mul-word invariant-loop decreases-loop
-mul-word c = omega arith
+overflow_mul-word : tie.Need-overflow_mul-word invariant-loop-w decreases-loop-w
+overflow_mul-word c = omega arith
 
-add-word : tie.Need-overflow-add-word invariant-loop decreases-loop
-add-word c = omega arith
+overflow_add-word : tie.Need-overflow_add-word invariant-loop-w decreases-loop-w
+overflow_add-word c = omega arith
 
-mul-word-2 : tie.Need-overflow-mul-word-2 invariant-loop decreases-loop
-mul-word-2 c = omega arith
+offset_bounds-enable-c : tie.Need-offset_bounds-enable-c invariant-loop-w decreases-loop-w
+offset_bounds-enable-c c = omega arith
 
-element-copy-out-word : tie.Need-element-copy-out-word invariant-loop decreases-loop
-element-copy-out-word c = omega arith
+bounds-enable-c : tie.Need-bounds-enable-c invariant-loop-w decreases-loop-w
+bounds-enable-c c = omega arith
 
-cast-kept-word : tie.Need-overflow-cast-kept-word invariant-loop decreases-loop
-cast-kept-word c = omega arith
+overflow_cast-w : tie.Need-overflow_cast-w invariant-loop-w decreases-loop-w
+overflow_cast-w c = omega arith
 
-kept-word-requires : tie.Need-kept-word-requires invariant-loop decreases-loop
-kept-word-requires c κs = omega arith
+kept_word-kept-requires : tie.Need-kept_word-kept-requires invariant-loop-w decreases-loop-w
+kept_word-kept-requires c κs = omega arith
 
-add-w : tie.Need-overflow-add-w invariant-loop decreases-loop
-add-w c = omega arith
+overflow_add-w : tie.Need-overflow_add-w invariant-loop-w decreases-loop-w
+overflow_add-w c = omega arith
 
-loop-less : tie.Need-loop-smaller invariant-loop decreases-loop
-loop-less c = omega arith
+loop-w-smaller : tie.Need-loop-w-smaller invariant-loop-w decreases-loop-w
+loop-w-smaller c = omega arith
 
-loop-again : tie.Need-loop-preserved invariant-loop decreases-loop
-loop-again c =
-    let a = c.before.before.before.before.args in
-    let l = c.before.before.before.loop in
-    check_next _ word_room _ l.invariant (omega arith) (ap (eqb (word a.enable.now a.c l.w)) c.kept_word.ensures)
+loop-w-preserved : tie.Need-loop-w-preserved invariant-loop-w decreases-loop-w
+loop-w-preserved c =
+    let a = c.args in
+    let l = c.loop-w in
+    check_next _ word_room _ l.invariant (omega arith) (ap (eqb (word a.enable.now a.c l.w)) c.kept_word-kept.ensures)
 
-returns : tie.Need-returns invariant-loop decreases-loop
-returns c = check_all _ word_room c.before.loop.invariant c.loop-test.false
+returns : tie.Need-returns invariant-loop-w decreases-loop-w
+returns c = check_all _ word_room c.loop-w.invariant c.loop-w-test.false
 
-pub words-kept-spec : {M : Type 1} → statement M
-words-kept-spec =
+pub words_kept_spec : {M : Type 1} → statement M
+words_kept_spec =
     tie.close
     (tie.spec
-    invariant-loop
-    decreases-loop
-    loop-holds
-    mul-word
-    add-word
-    mul-word-2
-    element-copy-out-word
-    cast-kept-word
-    kept-word-requires
-    add-w
-    loop-less
-    loop-again
+    invariant-loop-w
+    decreases-loop-w
+    loop-w-init
+    overflow_mul-word
+    overflow_add-word
+    offset_bounds-enable-c
+    bounds-enable-c
+    overflow_cast-w
+    kept_word-kept-requires
+    overflow_add-w
+    loop-w-smaller
+    loop-w-preserved
     returns)

@@ -10,51 +10,51 @@ use Rattle.soundness.proofs.Checking.{Checking, check_begin, check_next, check_a
 use Rattle.soundness.proofs.sound.words_zero.Statement.{statement}
 use Rattle.soundness.proofs.sound.words_zero.Tie as tie
 
-abbrev invariant-loop : tie.invariant-loop
-invariant-loop enable c zero₀ w₀ zero w = Checking (λ k. eqb (get_or enable (c * word_room + k) 0) 0) word_room w zero
+abbrev invariant-loop-w : tie.invariant-loop-w
+invariant-loop-w enable c zero₀ w₀ zero w = Checking (λ k. eqb (get_or enable (c * word_room + k) 0) 0) word_room w zero
 
-abbrev decreases-loop : tie.decreases-loop
-decreases-loop enable c zero₀ w₀ zero w = word_room - w
+abbrev decreases-loop-w : tie.decreases-loop-w
+decreases-loop-w enable c zero₀ w₀ zero w = word_room - w
 
-loop-holds : tie.Need-loop-init invariant-loop decreases-loop
-loop-holds c = check_begin _ word_room
+loop-w-init : tie.Need-loop-w-init invariant-loop-w decreases-loop-w
+loop-w-init c = check_begin _ word_room
 
-mul-zero : tie.Need-overflow-mul-zero invariant-loop decreases-loop
-mul-zero c = omega arith
+overflow_mul-zero : tie.Need-overflow_mul-zero invariant-loop-w decreases-loop-w
+overflow_mul-zero c = omega arith
 
-add-zero : tie.Need-overflow-add-zero invariant-loop decreases-loop
-add-zero c = omega arith
+overflow_add-zero : tie.Need-overflow_add-zero invariant-loop-w decreases-loop-w
+overflow_add-zero c = omega arith
 
-mul-zero-2 : tie.Need-overflow-mul-zero-2 invariant-loop decreases-loop
-mul-zero-2 c = omega arith
+offset_bounds-enable-c : tie.Need-offset_bounds-enable-c invariant-loop-w decreases-loop-w
+offset_bounds-enable-c c = omega arith
 
-element-copy-out-zero : tie.Need-element-copy-out-zero invariant-loop decreases-loop
-element-copy-out-zero c = omega arith
+bounds-enable-c : tie.Need-bounds-enable-c invariant-loop-w decreases-loop-w
+bounds-enable-c c = omega arith
 
-add-w : tie.Need-overflow-add-w invariant-loop decreases-loop
-add-w c = omega arith
+overflow_add-w : tie.Need-overflow_add-w invariant-loop-w decreases-loop-w
+overflow_add-w c = omega arith
 
-loop-less : tie.Need-loop-smaller invariant-loop decreases-loop
-loop-less c = omega arith
+loop-w-smaller : tie.Need-loop-w-smaller invariant-loop-w decreases-loop-w
+loop-w-smaller c = omega arith
 
-loop-again : tie.Need-loop-preserved invariant-loop decreases-loop
-loop-again c = check_next _ word_room _ c.before.before.loop.invariant (omega arith) refl
+loop-w-preserved : tie.Need-loop-w-preserved invariant-loop-w decreases-loop-w
+loop-w-preserved c = check_next _ word_room _ c.loop-w.invariant (omega arith) refl
 
-returns : tie.Need-returns invariant-loop decreases-loop
-returns c = check_all _ word_room c.before.loop.invariant c.loop-test.false
+returns : tie.Need-returns invariant-loop-w decreases-loop-w
+returns c = check_all _ word_room c.loop-w.invariant c.loop-w-test.false
 
-pub words-zero-spec : {M : Type 1} → statement M
-words-zero-spec =
+pub words_zero_spec : {M : Type 1} → statement M
+words_zero_spec =
     tie.close
     (tie.spec
-    invariant-loop
-    decreases-loop
-    loop-holds
-    mul-zero
-    add-zero
-    mul-zero-2
-    element-copy-out-zero
-    add-w
-    loop-less
-    loop-again
+    invariant-loop-w
+    decreases-loop-w
+    loop-w-init
+    overflow_mul-zero
+    overflow_add-zero
+    offset_bounds-enable-c
+    bounds-enable-c
+    overflow_add-w
+    loop-w-smaller
+    loop-w-preserved
     returns)

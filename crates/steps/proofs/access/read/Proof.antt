@@ -26,7 +26,7 @@ abbrev counts : tie.Start → Counts
 counts s = counts_of s.args.claims.now s.args.waited.now
 
 abbrev buckets : tie.Start → Buckets
-buckets s = buckets_of s.args.bucket-claims.now s.args.bucket-ticks.now
+buckets s = buckets_of s.args.bucket_claims.now s.args.bucket_ticks.now
 
 -- what a claim that source w wins leaves
 abbrev Leaves : tie.Start → List ℕ → List ℕ → Counts → Buckets → ℕ → Type 0
@@ -50,122 +50,122 @@ plain : (s : tie.Start) {k : Register} {x : ℕ} → s.args.register ≡ k → x
 plain s e f z = arm s e f z (record { stages = refl; starts = refl; counted = refl; booked = refl })
 
 -- the numbers of an enable word are within its array
-enable-within : (s : tie.Start) {c w : ℕ} → s.args.register ≡ Enable c w → (c < context_room) × (w < word_room)
-enable-within s e = ((within s e).0, omega (arith, (within s e).1, s.requires.0))
+enable_within : (s : tie.Start) {c w : ℕ} → s.args.register ≡ Enable c w → (c < context_room) × (w < word_room)
+enable_within s e = ((within s e).0, omega (arith, (within s e).1, s.requires.0))
 
-enum-known-register : tie.Need-enum-known-register
-enum-known-register c = search rules
+enum_known-register : tie.Need-enum_known-register
+enum_known-register c = search rules
 
-element-copy-out-value-of : tie.Need-element-copy-out-value-of
-element-copy-out-value-of c = omega (arith, within c.before.before.before c.before.register.given.1, c.before.before.before.requires.0)
+bounds-priority-s : tie.Need-bounds-priority-s
+bounds-priority-s c = omega (arith, within c.before.before c.in-Priority.is, c.requires.0)
 
-value-of-requires : tie.Need-value-of-requires
-value-of-requires c κs = search rules
+value_of-requires : tie.Need-value_of-requires
+value_of-requires c κs = search rules
 
-enum-known-register-2 : tie.Need-enum-known-register-2
-enum-known-register-2 c = search rules
+enum_known-register-in-Pending-1 : tie.Need-enum_known-register-in-Pending-1
+enum_known-register-in-Pending-1 c = search rules
 
-pending-word-requires : tie.Need-pending-word-requires
-pending-word-requires c κs =
-    omega (arith, within c.before.before.before.before c.before.before.register2.given.1, c.before.before.before.before.requires.0)
+pending_word-requires : tie.Need-pending_word-requires
+pending_word-requires c κs =
+    omega (arith, within c.before c.in-Pending.is, c.requires.0)
 
-enum-known-register-3 : tie.Need-enum-known-register-3
-enum-known-register-3 c = search rules
+enum_known-register-in-Enable-1 : tie.Need-enum_known-register-in-Enable-1
+enum_known-register-in-Enable-1 c = search rules
 
-mul-result : tie.Need-overflow-mul-result
-mul-result c = omega (arith, enable-within c.before.before.before c.before.register3.given.1)
+overflow_mul-result : tie.Need-overflow_mul-result
+overflow_mul-result c = omega (arith, enable_within c.before c.in-Enable.is)
 
-add-result : tie.Need-overflow-add-result
-add-result c = omega (arith, enable-within c.before.before.before c.before.register3.given.1)
+overflow_add-result : tie.Need-overflow_add-result
+overflow_add-result c = omega (arith, enable_within c.before c.in-Enable.is)
 
-mul-result-2 : tie.Need-overflow-mul-result-2
-mul-result-2 c = omega (arith, enable-within c.before.before.before c.before.register3.given.1)
+offset_bounds-enable-c : tie.Need-offset_bounds-enable-c
+offset_bounds-enable-c c = omega (arith, enable_within c.before c.in-Enable.is)
 
-element-copy-out-result : tie.Need-element-copy-out-result
-element-copy-out-result c = omega (arith, enable-within c.before.before.before c.before.register3.given.1)
+bounds-enable-c : tie.Need-bounds-enable-c
+bounds-enable-c c = omega (arith, enable_within c.before.before c.in-Enable.is)
 
-enum-known-register-4 : tie.Need-enum-known-register-4
-enum-known-register-4 c = search rules
+enum_known-register-in-Threshold-1 : tie.Need-enum_known-register-in-Threshold-1
+enum_known-register-in-Threshold-1 c = search rules
 
-element-copy-out-value-of-2 : tie.Need-element-copy-out-value-of-2
-element-copy-out-value-of-2 c = within c.before.before.before c.before.register4.given.1
+bounds-threshold-c : tie.Need-bounds-threshold-c
+bounds-threshold-c c = within c.before.before c.in-Threshold.is
 
-value-of-requires-2 : tie.Need-value-of-requires-2
-value-of-requires-2 c κs = search rules
+value_of-requires-in-Threshold : tie.Need-value_of-requires-in-Threshold
+value_of-requires-in-Threshold c κs = search rules
 
-enum-known-register-5 : tie.Need-enum-known-register-5
-enum-known-register-5 c = search rules
+enum_known-register-in-Claim-1 : tie.Need-enum_known-register-in-Claim-1
+enum_known-register-in-Claim-1 c = search rules
 
 claim-requires : tie.Need-claim-requires
 claim-requires c κs =
-    let d = c.before.before.before.before.before.before.before in
-    let s = d.before.before in
-    (omega (arith, s.requires.0), within s d.register5.given.1, s.requires.2)
+    let d = c.before.before.before.before.before.before in
+    let s = d.before in
+    (omega (arith, s.requires.0), within s d.in-Claim.is, s.requires.2)
 
-cast-result : tie.Need-overflow-cast-result
-cast-result c = search rules
+overflow_cast-result : tie.Need-overflow_cast-result
+overflow_cast-result c = search rules
 
-enum_told : tie.Need-enum-told
-enum_told c = search rules
+enum_told-1 : tie.Need-enum_told-1
+enum_told-1 c = search rules
 
-returns : tie.Need-returns
+returns-in-Priority : tie.Need-returns-in-Priority
 unfolding read_in claimed_in
-returns c =
+returns-in-Priority c =
     let d = c.before.before.before in
-    plain d.before.before d.register.given.1 c.value_of.ensures refl
+    plain d.before d.in-Priority.is c.value_of.ensures refl
 
-returns-2 : tie.Need-returns-2
+returns-in-Pending : tie.Need-returns-in-Pending
 unfolding read_in claimed_in
-returns-2 c =
-    let d = c.before.before.before in
-    plain d.before.before d.register2.given.1 c.pending-word.ensures refl
+returns-in-Pending c =
+    let d = c.before in
+    plain d.before d.in-Pending.is c.pending_word.ensures refl
 
-returns-3 : tie.Need-returns-3
+returns-in-Enable : tie.Need-returns-in-Enable
 unfolding read_in claimed_in
-returns-3 c =
+returns-in-Enable c =
     let d = c.before.before in
-    plain d.before.before d.register3.given.1 refl refl
+    plain d.before d.in-Enable.is refl refl
 
-returns-4 : tie.Need-returns-4
+returns-in-Threshold : tie.Need-returns-in-Threshold
 unfolding read_in claimed_in
-returns-4 c =
+returns-in-Threshold c =
     let d = c.before.before.before in
-    plain d.before.before d.register4.given.1 c.value-of2.ensures refl
+    plain d.before d.in-Threshold.is c.value_of-in-Threshold.ensures refl
 
-returns-5 : tie.Need-returns-5
+returns-in-Claim : tie.Need-returns-in-Claim
 unfolding read_in claimed_in
-returns-5 c =
-    let d = c.before.before.before.before.before.before.before.before in
-    arm d.before.before d.register5.given.1 c.claim.ensures.0 c.claim.ensures.0 c.claim.ensures.2
+returns-in-Claim c =
+    let d = c.before.before.before.before.before.before.before in
+    arm d.before d.in-Claim.is c.claim.ensures.0 c.claim.ensures.0 c.claim.ensures.2
 
-returns-6 : tie.Need-returns-6
+returns-in-Nothing : tie.Need-returns-in-Nothing
 unfolding read_in claimed_in
-returns-6 c = plain c.before.before c.enum_told.given.1 refl refl
+returns-in-Nothing c = plain c.before c.in-Nothing.is refl refl
 
 pub read_spec : {M : Type 1} → statement M
 read_spec =
     tie.close
     (tie.spec
-    enum-known-register
-    element-copy-out-value-of
-    value-of-requires
-    enum-known-register-2
-    pending-word-requires
-    enum-known-register-3
-    mul-result
-    add-result
-    mul-result-2
-    element-copy-out-result
-    enum-known-register-4
-    element-copy-out-value-of-2
-    value-of-requires-2
-    enum-known-register-5
+    enum_known-register
+    bounds-priority-s
+    value_of-requires
+    enum_known-register-in-Pending-1
+    pending_word-requires
+    enum_known-register-in-Enable-1
+    overflow_mul-result
+    overflow_add-result
+    offset_bounds-enable-c
+    bounds-enable-c
+    enum_known-register-in-Threshold-1
+    bounds-threshold-c
+    value_of-requires-in-Threshold
+    enum_known-register-in-Claim-1
     claim-requires
-    cast-result
-    enum_told
-    returns
-    returns-2
-    returns-3
-    returns-4
-    returns-5
-    returns-6)
+    overflow_cast-result
+    enum_told-1
+    returns-in-Priority
+    returns-in-Pending
+    returns-in-Enable
+    returns-in-Threshold
+    returns-in-Claim
+    returns-in-Nothing)

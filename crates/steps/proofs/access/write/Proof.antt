@@ -22,146 +22,146 @@ settings s = let a = s.args in settings_of a.priority.now a.enable.now a.thresho
 abbrev requests : tie.Start → Requests
 requests s = let a = s.args in requests_of a.stage.now a.line.now a.extra.now a.start.now
 
-abbrev sets-to : tie.Start → Register → Settings
-sets-to s r = let a = s.args in settings_written a.n a.b (settings s) r a.v
+abbrev sets_to : tie.Start → Register → Settings
+sets_to s r = let a = s.args in settings_written a.n a.b (settings s) r a.v
 
 abbrev leaves_in : tie.Start → Register → Requests
 leaves_in s r = let a = s.args in requests_written a.n a.enable.now a.kind.now a.clock (requests s) r a.v
 
 -- an arm that knows its register
-arm : (s : tie.Start) {k : Register} {g : Settings} {q : Requests} → s.args.register ≡ k → g ≡ sets-to s k → q ≡ leaves_in s k →
-    (g ≡ sets-to s s.args.register) × (q ≡ leaves_in s s.args.register)
-arm s e f h = (f ∙ sym (ap (sets-to s) e), h ∙ sym (ap (leaves_in s) e))
+arm : (s : tie.Start) {k : Register} {g : Settings} {q : Requests} → s.args.register ≡ k → g ≡ sets_to s k → q ≡ leaves_in s k →
+    (g ≡ sets_to s s.args.register) × (q ≡ leaves_in s s.args.register)
+arm s e f h = (f ∙ sym (ap (sets_to s) e), h ∙ sym (ap (leaves_in s) e))
 
 -- the register is within its arrays, whichever it is
 within : (s : tie.Start) {k : Register} → s.args.register ≡ k → Within s.args.n k
 within s e = subst (Within s.args.n) e s.requires.2
 
-enable-within : (s : tie.Start) {c w : ℕ} → s.args.register ≡ Enable c w → (c < context_room) × (w < word_room) × (w ≤ s.args.n / 32)
-enable-within s e = ((within s e).0, omega (arith, (within s e).1, s.requires.0), (within s e).1)
+enable_within : (s : tie.Start) {c w : ℕ} → s.args.register ≡ Enable c w → (c < context_room) × (w < word_room) × (w ≤ s.args.n / 32)
+enable_within s e = ((within s e).0, omega (arith, (within s e).1, s.requires.0), (within s e).1)
 
-enum-known-register : tie.Need-enum-known-register
-enum-known-register c = search rules
+enum_known-register : tie.Need-enum_known-register
+enum_known-register c = search rules
 
 reduced-requires : tie.Need-reduced-requires
 reduced-requires c κs = search rules
 
-element-write-priority : tie.Need-element-write-priority
-element-write-priority c =
+bounds-priority-s : tie.Need-bounds-priority-s
+bounds-priority-s c =
     let d = c.before.before in
-    omega (arith, within d.before.before d.register.given.1, d.before.before.requires.0)
+    omega (arith, within d.before d.in-Priority.is, d.requires.0)
 
-enum-known-register-2 : tie.Need-enum-known-register-2
-enum-known-register-2 c = search rules
+enum_known-register-in-Enable-1 : tie.Need-enum_known-register-in-Enable-1
+enum_known-register-in-Enable-1 c = search rules
 
-cast-kept-bits : tie.Need-overflow-cast-kept-bits
-cast-kept-bits c = omega (arith, enable-within c.before.before.before c.before.register2.given.1)
+overflow_cast-w : tie.Need-overflow_cast-w
+overflow_cast-w c = omega (arith, enable_within c.before c.in-Enable.is)
 
-kept-bits-requires : tie.Need-kept-bits-requires
-kept-bits-requires c κs = (c.before.before.before.requires.0, (enable-within c.before.before.before c.before.register2.given.1).2)
+kept_bits-requires : tie.Need-kept_bits-requires
+kept_bits-requires c κs = (c.requires.0, (enable_within c.before c.in-Enable.is).2)
 
-mul-enable : tie.Need-overflow-mul-enable
-mul-enable c = omega (arith, enable-within c.before.before.before.before c.before.before.register2.given.1)
+overflow_mul-enable : tie.Need-overflow_mul-enable
+overflow_mul-enable c = omega (arith, enable_within c.before.before c.in-Enable.is)
 
-add-enable : tie.Need-overflow-add-enable
-add-enable c = omega (arith, enable-within c.before.before.before.before c.before.before.register2.given.1)
+overflow_add-enable : tie.Need-overflow_add-enable
+overflow_add-enable c = omega (arith, enable_within c.before.before c.in-Enable.is)
 
-mul-enable-2 : tie.Need-overflow-mul-enable-2
-mul-enable-2 c = omega (arith, enable-within c.before.before.before.before c.before.before.register2.given.1)
+offset_bounds-enable-c : tie.Need-offset_bounds-enable-c
+offset_bounds-enable-c c = omega (arith, enable_within c.before.before c.in-Enable.is)
 
-element-write-enable : tie.Need-element-write-enable
-element-write-enable c = omega (arith, enable-within c.before.before.before.before c.before.before.register2.given.1)
+bounds-enable-c : tie.Need-bounds-enable-c
+bounds-enable-c c = omega (arith, enable_within c.before.before.before c.in-Enable.is)
 
-enum-known-register-3 : tie.Need-enum-known-register-3
-enum-known-register-3 c = search rules
+enum_known-register-in-Threshold-1 : tie.Need-enum_known-register-in-Threshold-1
+enum_known-register-in-Threshold-1 c = search rules
 
-reduced-requires-2 : tie.Need-reduced-requires-2
-reduced-requires-2 c κs = search rules
+reduced-requires-in-Threshold : tie.Need-reduced-requires-in-Threshold
+reduced-requires-in-Threshold c κs = search rules
 
-element-write-threshold : tie.Need-element-write-threshold
-element-write-threshold c =
+bounds-threshold-c : tie.Need-bounds-threshold-c
+bounds-threshold-c c =
     let d = c.before.before in
-    within d.before.before d.register3.given.1
+    within d.before d.in-Threshold.is
 
-enum-known-register-4 : tie.Need-enum-known-register-4
-enum-known-register-4 c = search rules
+enum_known-register-in-Claim-1 : tie.Need-enum_known-register-in-Claim-1
+enum_known-register-in-Claim-1 c = search rules
 
-complete-by-requires : tie.Need-complete-by-requires
-complete-by-requires c κs =
-    let d = c.before.before.before.before.before in
-    (omega (arith, d.before.before.requires.0), within d.before.before d.register4.given.1)
+complete_by-requires : tie.Need-complete_by-requires
+complete_by-requires c κs =
+    let d = c.before.before.before in
+    (omega (arith, d.requires.0), within d.before d.in-Claim.is)
 
-enum_told : tie.Need-enum-told
-enum_told c = search rules
+enum_told-1 : tie.Need-enum_told-1
+enum_told-1 c = search rules
 
-enum-told-2 : tie.Need-enum-told-2
-enum-told-2 c = search rules
+enum_told-in-Nothing : tie.Need-enum_told-in-Nothing
+enum_told-in-Nothing c = search rules
 
-returns : tie.Need-returns
+returns-in-Priority : tie.Need-returns-in-Priority
 unfolding settings_written requests_written
-returns c =
+returns-in-Priority c =
     let d = c.before.before in
-    let s = d.before.before in
-    let i = d.register.given.0.0 in
-    arm s d.register.given.1
+    let s = d.before in
+    let i = d.in-Priority.s in
+    arm s d.in-Priority.is
     (ap (λ (x : ℕ). settings_of (set s.args.priority.now i x) s.args.enable.now s.args.threshold.now) c.reduced.ensures) refl
 
-returns-2 : tie.Need-returns-2
+returns-in-Enable : tie.Need-returns-in-Enable
 unfolding settings_written requests_written
-returns-2 c =
+returns-in-Enable c =
     let d = c.before.before in
-    let s = d.before.before in
-    let at = d.register2.given.0.0 * word_room + d.register2.given.0.1.0 in
-    arm s d.register2.given.1
-    (ap (λ (x : ℕ). settings_of s.args.priority.now (set s.args.enable.now at x) s.args.threshold.now) c.kept-bits.ensures) refl
+    let s = d.before in
+    let at = d.in-Enable.c * word_room + d.in-Enable.w in
+    arm s d.in-Enable.is
+    (ap (λ (x : ℕ). settings_of s.args.priority.now (set s.args.enable.now at x) s.args.threshold.now) c.kept_bits.ensures) refl
 
-returns-3 : tie.Need-returns-3
+returns-in-Threshold : tie.Need-returns-in-Threshold
 unfolding settings_written requests_written
-returns-3 c =
+returns-in-Threshold c =
     let d = c.before.before in
-    let s = d.before.before in
-    let i = d.register3.given.0.0 in
-    arm s d.register3.given.1
-    (ap (λ (x : ℕ). settings_of s.args.priority.now s.args.enable.now (set s.args.threshold.now i x)) c.reduced2.ensures) refl
+    let s = d.before in
+    let i = d.in-Threshold.c in
+    arm s d.in-Threshold.is
+    (ap (λ (x : ℕ). settings_of s.args.priority.now s.args.enable.now (set s.args.threshold.now i x)) c.reduced-in-Threshold.ensures) refl
 
-returns-4 : tie.Need-returns-4
+returns-in-Claim : tie.Need-returns-in-Claim
 unfolding settings_written requests_written
-returns-4 c =
-    let d = c.before.before.before.before.before.before in
-    arm d.before.before d.register4.given.1 refl c.complete-by.ensures
+returns-in-Claim c =
+    let d = c.before.before.before.before in
+    arm d.before d.in-Claim.is refl c.complete_by.ensures
 
-returns-5 : tie.Need-returns-5
+returns-in-Pending : tie.Need-returns-in-Pending
 unfolding settings_written requests_written
-returns-5 c = arm c.before.before c.enum_told.given.1 refl refl
+returns-in-Pending c = arm c.before c.in-Pending.is refl refl
 
-returns-6 : tie.Need-returns-6
+returns-in-Nothing : tie.Need-returns-in-Nothing
 unfolding settings_written requests_written
-returns-6 c = arm c.before.before c.enum-told2.given.1 refl refl
+returns-in-Nothing c = arm c.before c.in-Nothing.is refl refl
 
 pub write_spec : {M : Type 1} → statement M
 write_spec =
     tie.close
     (tie.spec
-    enum-known-register
+    enum_known-register
     reduced-requires
-    element-write-priority
-    enum-known-register-2
-    cast-kept-bits
-    kept-bits-requires
-    mul-enable
-    add-enable
-    mul-enable-2
-    element-write-enable
-    enum-known-register-3
-    reduced-requires-2
-    element-write-threshold
-    enum-known-register-4
-    complete-by-requires
-    enum_told
-    enum-told-2
-    returns
-    returns-2
-    returns-3
-    returns-4
-    returns-5
-    returns-6)
+    bounds-priority-s
+    enum_known-register-in-Enable-1
+    overflow_cast-w
+    kept_bits-requires
+    overflow_mul-enable
+    overflow_add-enable
+    offset_bounds-enable-c
+    bounds-enable-c
+    enum_known-register-in-Threshold-1
+    reduced-requires-in-Threshold
+    bounds-threshold-c
+    enum_known-register-in-Claim-1
+    complete_by-requires
+    enum_told-1
+    enum_told-in-Nothing
+    returns-in-Priority
+    returns-in-Enable
+    returns-in-Threshold
+    returns-in-Claim
+    returns-in-Pending
+    returns-in-Nothing)

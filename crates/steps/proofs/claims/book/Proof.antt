@@ -10,90 +10,90 @@ use Rattle.steps.specs.Arrays.{buckets_of}
 use Rattle.steps.proofs.claims.book.Statement.{statement}
 use Rattle.steps.proofs.claims.book.Tie as tie
 
-bucket-of-requires : tie.Need-bucket-of-requires
-bucket-of-requires c κs = search rules
+bucket_of-k-requires : tie.Need-bucket_of-k-requires
+bucket_of-k-requires c κs = search rules
 
-mul-claims : tie.Need-overflow-mul-claims
-mul-claims c = search rules
+offset_bounds-claims-i : tie.Need-offset_bounds-claims-i
+offset_bounds-claims-i c = search rules
 
-element-copy-out-claims : tie.Need-element-copy-out-claims
-element-copy-out-claims c = search rules
+bounds-claims-i : tie.Need-bounds-claims-i
+bounds-claims-i c = search rules
 
-add-claims : tie.Need-overflow-add-claims
-add-claims c = search rules
+overflow_add-claims : tie.Need-overflow_add-claims
+overflow_add-claims c = search rules
 
-element-write-claims : tie.Need-element-write-claims
-element-write-claims c = search rules
+bounds-claims-i-2 : tie.Need-bounds-claims-i-2
+bounds-claims-i-2 c = search rules
 
-mul-waited : tie.Need-overflow-mul-waited
-mul-waited c = search rules
+offset_bounds-waited-i : tie.Need-offset_bounds-waited-i
+offset_bounds-waited-i c = search rules
 
-element-copy-out-waited : tie.Need-element-copy-out-waited
-element-copy-out-waited c = search rules
+bounds-waited-i : tie.Need-bounds-waited-i
+bounds-waited-i c = search rules
 
-add-waited : tie.Need-overflow-add-waited
-add-waited c = search rules
+overflow_add-waited : tie.Need-overflow_add-waited
+overflow_add-waited c = search rules
 
-element-write-waited : tie.Need-element-write-waited
-element-write-waited c = search rules
+bounds-waited-i-2 : tie.Need-bounds-waited-i-2
+bounds-waited-i-2 c = search rules
 
-mul-bucket-claims : tie.Need-overflow-mul-bucket-claims
-mul-bucket-claims c = search rules
+offset_bounds-bucket_claims-k : tie.Need-offset_bounds-bucket_claims-k
+offset_bounds-bucket_claims-k c = search rules
 
-element-copy-out-bucket-claims : tie.Need-element-copy-out-bucket-claims
-element-copy-out-bucket-claims c = search rules
+bounds-bucket_claims-k : tie.Need-bounds-bucket_claims-k
+bounds-bucket_claims-k c = search rules
 
-add-bucket-claims : tie.Need-overflow-add-bucket-claims
-add-bucket-claims c =
+overflow_add-bucket_claims : tie.Need-overflow_add-bucket_claims
+overflow_add-bucket_claims c =
     let d = c.before.before.before in
-    omega (arith, ap (λ (k : ℕ). get_or d.before.args.bucket-claims.now k 0) d.bucket-of.ensures.0)
+    omega (arith, ap (λ (k : ℕ). get_or d.args.bucket_claims.now k 0) d.bucket_of-k.ensures.0)
 
-element-write-bucket-claims : tie.Need-element-write-bucket-claims
-element-write-bucket-claims c = search rules
+bounds-bucket_claims-k-2 : tie.Need-bounds-bucket_claims-k-2
+bounds-bucket_claims-k-2 c = search rules
 
-mul-bucket-ticks : tie.Need-overflow-mul-bucket-ticks
-mul-bucket-ticks c = search rules
+offset_bounds-bucket_ticks-k : tie.Need-offset_bounds-bucket_ticks-k
+offset_bounds-bucket_ticks-k c = search rules
 
-element-copy-out-bucket-ticks : tie.Need-element-copy-out-bucket-ticks
-element-copy-out-bucket-ticks c = search rules
+bounds-bucket_ticks-k : tie.Need-bounds-bucket_ticks-k
+bounds-bucket_ticks-k c = search rules
 
-add-bucket-ticks : tie.Need-overflow-add-bucket-ticks
-add-bucket-ticks c =
+overflow_add-bucket_ticks : tie.Need-overflow_add-bucket_ticks
+overflow_add-bucket_ticks c =
     let d = c.before.before.before.before in
-    omega (arith, ap (λ (k : ℕ). get_or d.before.args.bucket-ticks.now k 0) d.bucket-of.ensures.0)
+    omega (arith, ap (λ (k : ℕ). get_or d.args.bucket_ticks.now k 0) d.bucket_of-k.ensures.0)
 
-element-write-bucket-ticks : tie.Need-element-write-bucket-ticks
-element-write-bucket-ticks c = search rules
+bounds-bucket_ticks-k-2 : tie.Need-bounds-bucket_ticks-k-2
+bounds-bucket_ticks-k-2 c = search rules
 
 returns : tie.Need-returns
 unfolding counted booked
 returns c =
-    let a = c.before.before.before.before.before.args in (
+    let a = c.args in (
       refl,
-      ap (λ (k : ℕ). buckets_of (set a.bucket-claims.now k (get_or a.bucket-claims.now k 0 + 1))
-          (set a.bucket-ticks.now k (get_or a.bucket-ticks.now k 0 + a.w)))
-          c.before.before.before.before.bucket-of.ensures.0,
+      ap (λ (k : ℕ). buckets_of (set a.bucket_claims.now k (get_or a.bucket_claims.now k 0 + 1))
+          (set a.bucket_ticks.now k (get_or a.bucket_ticks.now k 0 + a.w)))
+          c.bucket_of-k.ensures.0,
     )
 
-pub book-spec : {M : Type 1} → statement M
-book-spec =
+pub book_spec : {M : Type 1} → statement M
+book_spec =
     tie.close
     (tie.spec
-    bucket-of-requires
-    mul-claims
-    element-copy-out-claims
-    add-claims
-    element-write-claims
-    mul-waited
-    element-copy-out-waited
-    add-waited
-    element-write-waited
-    mul-bucket-claims
-    element-copy-out-bucket-claims
-    add-bucket-claims
-    element-write-bucket-claims
-    mul-bucket-ticks
-    element-copy-out-bucket-ticks
-    add-bucket-ticks
-    element-write-bucket-ticks
+    bucket_of-k-requires
+    offset_bounds-claims-i
+    bounds-claims-i
+    overflow_add-claims
+    bounds-claims-i-2
+    offset_bounds-waited-i
+    bounds-waited-i
+    overflow_add-waited
+    bounds-waited-i-2
+    offset_bounds-bucket_claims-k
+    bounds-bucket_claims-k
+    overflow_add-bucket_claims
+    bounds-bucket_claims-k-2
+    offset_bounds-bucket_ticks-k
+    bounds-bucket_ticks-k
+    overflow_add-bucket_ticks
+    bounds-bucket_ticks-k-2
     returns)

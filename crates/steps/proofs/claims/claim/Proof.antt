@@ -17,45 +17,45 @@ use Rattle.steps.proofs.claims.claim.Statement.{statement}
 use Rattle.steps.proofs.claims.claim.Tie as tie
 
 -- the winner is a pending source
-won : (c : tie.Else1) →
-    let w = c.before.winner.result in
-    (1 ≤ w) × (w ≤ c.before.before.before.args.n) × So (is_pending_in c.before.before.before.args.stage.now w)
+won : (c : tie.Else-w-eq0) →
+    let w = c.winner-w.result in
+    (1 ≤ w) × (w ≤ c.args.n) × So (is_pending_in c.args.stage.now w)
 won c =
-    let a = c.before.before.before.args in
-    winner_in_facts a.n a.stage.now a.priority.now a.enable.now a.c c.before.winner.result c.before.winner.ensures c.if1.false
+    let a = c.args in
+    winner_in_facts a.n a.stage.now a.priority.now a.enable.now a.c c.winner-w.result c.winner-w.ensures c.if-w-eq0.false
 
-below : (c : tie.Else1) → c.before.winner.result < source_room
-below c = omega (arith, (won c).1, c.before.before.before.requires.0)
+below : (c : tie.Else-w-eq0) → c.winner-w.result < source_room
+below c = omega (arith, (won c).1, c.requires.0)
 
-winner-requires : tie.Need-winner-requires
-winner-requires c κs = search rules
+winner-w-requires : tie.Need-winner-w-requires
+winner-w-requires c κs = search rules
 
-returns : tie.Need-returns
-returns c = search rules
+returns-then-w-eq0 : tie.Need-returns-then-w-eq0
+returns-then-w-eq0 c = search rules
 
-mul-wait : tie.Need-overflow-mul-wait
-mul-wait c = omega (arith, below c)
+offset_bounds-start-w : tie.Need-offset_bounds-start-w
+offset_bounds-start-w c = omega (arith, below c)
 
-element-copy-out-wait : tie.Need-element-copy-out-wait
-element-copy-out-wait c = below c
+bounds-start-w : tie.Need-bounds-start-w
+bounds-start-w c = below c.before
 
-sub-wait : tie.Need-overflow-sub-wait
-sub-wait c = c.before.before.before.before.requires.2.begun c.before.before.winner.result (below c.before) (won c.before).2
+overflow_sub-wait : tie.Need-overflow_sub-wait
+overflow_sub-wait c = c.requires.2.begun c.winner-w.result (below c.before.before) (won c.before.before).2
 
-set-stage-requires : tie.Need-set-stage-requires
-set-stage-requires c κs = below c.before.before
+set_stage-requires : tie.Need-set_stage-requires
+set_stage-requires c κs = below c.before.before.before
 
-mul-start : tie.Need-overflow-mul-start
-mul-start c = omega (arith, below c.before.before.before)
+offset_bounds-start-w-2 : tie.Need-offset_bounds-start-w-2
+offset_bounds-start-w-2 c = omega (arith, below c.before.before.before.before)
 
-element-write-start : tie.Need-element-write-start
-element-write-start c = below c.before.before.before
+bounds-start-w-2 : tie.Need-bounds-start-w-2
+bounds-start-w-2 c = below c.before.before.before.before
 
 book-requires : tie.Need-book-requires
 book-requires c κs =
-    let at = c.before.before.before.before.before.before.before in
-    let start = at.before.before.before in
-    let w = at.before.winner.result in
+    let at = c.before.before.before.before.before.before.before.before in
+    let start = at in
+    let w = at.winner-w.result in
     let bookable = start.requires.2 in
     let wait = start.args.clock - get_or start.args.start.now w 0 in
     let most : wait ≤ 4294967295 = omega (arith, start.ranges.clock) in
@@ -67,31 +67,31 @@ book-requires c κs =
       omega (arith, bookable.total (bucket_of wait) bucket),
     )
 
-returns-2 : tie.Need-returns-2
-returns-2 c =
-    let at = c.before.before.before.before.before.before.before.before in
-    let serves = ne_eqb _ _ at.if1.false in (
-      at.before.winner.ensures,
+returns : tie.Need-returns
+returns c =
+    let at = c.before.before.before.before.before.before.before.before.before in
+    let serves = ne_eqb _ _ at.if-w-eq0.false in (
+      at.winner-w.ensures,
       below at,
       record {
-        stages = c.before.before.before.before.before.set-stage.ensures ∙ sym (cond_not _ _ serves);
+        stages = c.set_stage.ensures ∙ sym (cond_not _ _ serves);
         starts = sym (cond_not _ _ serves);
         counted = c.book.ensures.0 ∙ sym (cond_not _ _ serves);
         booked = c.book.ensures.1 ∙ sym (cond_not _ _ serves);
       },
     )
 
-pub claim-spec : {M : Type 1} → statement M
-claim-spec =
+pub claim_spec : {M : Type 1} → statement M
+claim_spec =
     tie.close
     (tie.spec
-    winner-requires
-    returns
-    mul-wait
-    element-copy-out-wait
-    sub-wait
-    set-stage-requires
-    mul-start
-    element-write-start
+    winner-w-requires
+    returns-then-w-eq0
+    offset_bounds-start-w
+    bounds-start-w
+    overflow_sub-wait
+    set_stage-requires
+    offset_bounds-start-w-2
+    bounds-start-w-2
     book-requires
-    returns-2)
+    returns)

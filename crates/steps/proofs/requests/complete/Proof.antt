@@ -8,58 +8,58 @@ use Rattle.steps.proofs.Stores.{put_back_lineless}
 use Rattle.steps.proofs.requests.complete.Statement.{statement}
 use Rattle.steps.proofs.requests.complete.Tie as tie
 
-stage-of-requires : tie.Need-stage-of-requires
-stage-of-requires c κs = search rules
+stage_of-requires : tie.Need-stage_of-requires
+stage_of-requires c κs = search rules
 
-element-copy-out-t13 : tie.Need-element-copy-out-t13
-element-copy-out-t13 c = search rules
+bounds-line-i : tie.Need-bounds-line-i
+bounds-line-i c = search rules
 
-element-copy-out-t16 : tie.Need-element-copy-out-t16
-element-copy-out-t16 c = search rules
+bounds-extra-i : tie.Need-bounds-extra-i
+bounds-extra-i c = search rules
 
-mul-t17 : tie.Need-overflow-mul-t17
-mul-t17 c = search rules
+offset_bounds-start-i : tie.Need-offset_bounds-start-i
+offset_bounds-start-i c = search rules
 
-element-copy-out-t20 : tie.Need-element-copy-out-t20
-element-copy-out-t20 c = search rules
+bounds-start-i : tie.Need-bounds-start-i
+bounds-start-i c = search rules
 
-completed-requires : tie.Need-completed-requires
-completed-requires c κs = search rules
+completed-r-requires : tie.Need-completed-r-requires
+completed-r-requires c κs = search rules
 
-set-stage-requires : tie.Need-set-stage-requires
-set-stage-requires c κs = search rules
+set_stage-requires : tie.Need-set_stage-requires
+set_stage-requires c κs = search rules
 
-element-write-extra : tie.Need-element-write-extra
-element-write-extra c = search rules
+bounds-extra-i-2 : tie.Need-bounds-extra-i-2
+bounds-extra-i-2 c = search rules
 
-mul-start : tie.Need-overflow-mul-start
-mul-start c = search rules
+offset_bounds-start-i-2 : tie.Need-offset_bounds-start-i-2
+offset_bounds-start-i-2 c = search rules
 
-element-write-start : tie.Need-element-write-start
-element-write-start c = search rules
+bounds-start-i-2 : tie.Need-bounds-start-i-2
+bounds-start-i-2 c = search rules
 
 returns : tie.Need-returns
 unfolding completed_at
 returns c =
     let d = c.before.before in
-    let a = d.before.before.before.before.before.before.args in
+    let a = d.args in
     put_back_lineless (completed a.kind a.clock) (requests_of a.stage.now a.line.now a.extra.now a.start.now) a.i
-    d.before.before.before.before.stage-of.result d.completed.result c.set-stage.new.0
-    d.before.before.before.before.stage-of.ensures d.completed.ensures c.set-stage.ensures
+    d.stage_of.result d.completed-r.result c.set_stage.new.stage
+    d.stage_of.ensures d.completed-r.ensures c.set_stage.ensures
     (completed_line a.kind a.clock)
 
-pub complete-spec : {M : Type 1} → statement M
-complete-spec =
+pub complete_spec : {M : Type 1} → statement M
+complete_spec =
     tie.close
     (tie.spec
-    stage-of-requires
-    element-copy-out-t13
-    element-copy-out-t16
-    mul-t17
-    element-copy-out-t20
-    completed-requires
-    set-stage-requires
-    element-write-extra
-    mul-start
-    element-write-start
+    stage_of-requires
+    bounds-line-i
+    bounds-extra-i
+    offset_bounds-start-i
+    bounds-start-i
+    completed-r-requires
+    set_stage-requires
+    bounds-extra-i-2
+    offset_bounds-start-i-2
+    bounds-start-i-2
     returns)

@@ -7,61 +7,61 @@ use Rattle.steps.proofs.Stores.{put_back}
 use Rattle.steps.proofs.requests.set_line.Statement.{statement}
 use Rattle.steps.proofs.requests.set_line.Tie as tie
 
-stage-of-requires : tie.Need-stage-of-requires
-stage-of-requires c κs = search rules
+stage_of-requires : tie.Need-stage_of-requires
+stage_of-requires c κs = search rules
 
-element-copy-out-t14 : tie.Need-element-copy-out-t14
-element-copy-out-t14 c = search rules
+bounds-line-i : tie.Need-bounds-line-i
+bounds-line-i c = search rules
 
-element-copy-out-t17 : tie.Need-element-copy-out-t17
-element-copy-out-t17 c = search rules
+bounds-extra-i : tie.Need-bounds-extra-i
+bounds-extra-i c = search rules
 
-mul-t18 : tie.Need-overflow-mul-t18
-mul-t18 c = search rules
+offset_bounds-start-i : tie.Need-offset_bounds-start-i
+offset_bounds-start-i c = search rules
 
-element-copy-out-t21 : tie.Need-element-copy-out-t21
-element-copy-out-t21 c = search rules
+bounds-start-i : tie.Need-bounds-start-i
+bounds-start-i c = search rules
 
-line-changed-requires : tie.Need-line-changed-requires
-line-changed-requires c κs = search rules
+line_changed-r-requires : tie.Need-line_changed-r-requires
+line_changed-r-requires c κs = search rules
 
-set-stage-requires : tie.Need-set-stage-requires
-set-stage-requires c κs = search rules
+set_stage-requires : tie.Need-set_stage-requires
+set_stage-requires c κs = search rules
 
-element-write-line : tie.Need-element-write-line
-element-write-line c = search rules
+bounds-line-i-2 : tie.Need-bounds-line-i-2
+bounds-line-i-2 c = search rules
 
-element-write-extra : tie.Need-element-write-extra
-element-write-extra c = search rules
+bounds-extra-i-2 : tie.Need-bounds-extra-i-2
+bounds-extra-i-2 c = search rules
 
-mul-start : tie.Need-overflow-mul-start
-mul-start c = search rules
+offset_bounds-start-i-2 : tie.Need-offset_bounds-start-i-2
+offset_bounds-start-i-2 c = search rules
 
-element-write-start : tie.Need-element-write-start
-element-write-start c = search rules
+bounds-start-i-2 : tie.Need-bounds-start-i-2
+bounds-start-i-2 c = search rules
 
 returns : tie.Need-returns
 unfolding line_set
 returns c =
     let d = c.before.before in
-    let a = d.before.before.before.before.before.before.args in
+    let a = d.args in
     put_back (line_changed a.kind a.clock a.level) (requests_of a.stage.now a.line.now a.extra.now a.start.now) a.i
-    d.before.before.before.before.stage-of.result d.line-changed.result c.set-stage.new.0
-    d.before.before.before.before.stage-of.ensures d.line-changed.ensures c.set-stage.ensures
+    d.stage_of.result d.line_changed-r.result c.set_stage.new.stage
+    d.stage_of.ensures d.line_changed-r.ensures c.set_stage.ensures
 
-pub set-line-spec : {M : Type 1} → statement M
-set-line-spec =
+pub set_line_spec : {M : Type 1} → statement M
+set_line_spec =
     tie.close
     (tie.spec
-    stage-of-requires
-    element-copy-out-t14
-    element-copy-out-t17
-    mul-t18
-    element-copy-out-t21
-    line-changed-requires
-    set-stage-requires
-    element-write-line
-    element-write-extra
-    mul-start
-    element-write-start
+    stage_of-requires
+    bounds-line-i
+    bounds-extra-i
+    offset_bounds-start-i
+    bounds-start-i
+    line_changed-r-requires
+    set_stage-requires
+    bounds-line-i-2
+    bounds-extra-i-2
+    offset_bounds-start-i-2
+    bounds-start-i-2
     returns)
