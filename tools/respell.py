@@ -30,6 +30,9 @@ KEPT_APART = {
     "winner-in": "winner_in_facts",
 }
 
+# lemmas named by the two functions of their left side, which a dash joins
+JOINED = {"bit-bit_and", "bit-bit_or", "bit-bit_xor"}
+
 # names that port.py let fall together: in files below the folder, the name is another
 PARTED = {
     "crates/feeding/": {"rest_of": "rest_taken"},
@@ -42,7 +45,7 @@ def plain(name):
 
 
 def turned(name):
-    return name[0].islower() and (re.search("[A-Z]", name) or "-" in name)
+    return name not in JOINED and name[0].islower() and (re.search("[A-Z]", name) or "-" in name)
 
 
 def declared():
@@ -76,11 +79,13 @@ def main():
             print(old, new[old])
         return
     # In the proof of a function `w.n-is` is a name that Rattle makes.
+    made = re.compile(r"crates/[^/]+/proofs/.*/")
     word = re.compile(r"(?<![\w'₀-₉-])(" + "|".join(sorted(map(re.escape, new), key=len, reverse=True)) + r")(?![\w'₀-₉-])")
     for path in sorted(glob.glob("crates/**/*.antt", recursive=True) + glob.glob("crates/**/*.rt", recursive=True)):
         with open(path, encoding="utf-8") as f:
             old = f.read()
-        text = word.sub(lambda m: new[m.group(1)], old)
+        own = made.match(path)
+        text = word.sub(lambda m: m.group(0) if own and m.group(0).endswith("-is") and old[m.start() - 1] == "." else new[m.group(1)], old)
         for folder, apart in PARTED.items():
             if path.startswith(folder):
                 for one, other in apart.items():

@@ -158,18 +158,18 @@ module _ (l : List ℕ) (short : length l ≤ line_room) (enough : 2 ≤ length 
         ∙ ap (of_words (length l)) (cond_not ([] ∷ [] ∷ words (drop 2 l)) ((get_or l 0 0 ∷ []) ∷ words (drop 2 l)) h)
 
     -- a letter that is no space has its form
-    command-letter : (x : ℕ) (f : ℕ → List (List ℕ) → Command) →
+    command_letter : (x : ℕ) (f : ℕ → List (List ℕ) → Command) →
         ((long : ℕ) (ws : List (List ℕ)) → of_words long ((x ∷ []) ∷ ws) ≡ f long ws) → eqb x 32 ≡ false →
         get_or l 0 0 ≡ x → command_of l ≡ f (length l) (words (drop 2 l))
-    command-letter x f form h e =
+    command_letter x f form h e =
         letter_at (ap (λ (y : ℕ). eqb y 32) e ∙ h)
         ∙ ap (λ (y : ℕ). of_words (length l) ((y ∷ []) ∷ words (drop 2 l))) e
         ∙ form (length l) (words (drop 2 l))
 
     -- what holds of Unreadable and of the first byte's form holds of the line's command
-    command-form : (P : Command → Type 0) → P Unreadable → P (of_words (length l) ((get_or l 0 0 ∷ []) ∷ words (drop 2 l))) → P (command_of l)
+    command_form : (P : Command → Type 0) → P Unreadable → P (of_words (length l) ((get_or l 0 0 ∷ []) ∷ words (drop 2 l))) → P (command_of l)
     unfolding words join_first
-    command-form P none form = ⊎_elim
+    command_form P none form = ⊎_elim
         (λ s.
         subst P
         (sym (command_at
@@ -205,14 +205,14 @@ module _ (l : List ℕ) where
   by_letter x f form h k =
       letter_cases l (λ (y : ℕ). y ≡ x → command_of l ≡ f (length l) (words (drop 2 l)))
       (λ _ e. absurd (eqb-false _ _ h (sym e)))
-      (λ short enough spaced. command-letter l short enough spaced x f form k)
+      (λ short enough spaced. command_letter l short enough spaced x f form k)
 
   -- what holds of Unreadable and of the forms of each letter x with R x holds of the command of a line whose letter is one
   pub letter_form : (P : Command → Type 0) (R : ℕ → Type 0) → P Unreadable →
       ((x long : ℕ) (ws : List (List ℕ)) → R x → P (of_words long ((x ∷ []) ∷ ws))) → R (letter_of l) → P (command_of l)
   letter_form P R none form =
       letter_cases l (λ (y : ℕ). R y → P (command_of l)) (λ e _. subst P (sym e) none)
-      (λ short enough spaced r. command-form l short enough spaced P none (form (get_or l 0 0) (length l) (words (drop 2 l)) r))
+      (λ short enough spaced r. command_form l short enough spaced P none (form (get_or l 0 0) (length l) (words (drop 2 l)) r))
 
   -- any other letter has no form
   pub unlettered : Unlettered (letter_of l) → command_of l ≡ Unreadable

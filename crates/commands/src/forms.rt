@@ -80,7 +80,8 @@ fn level_at(line: &[u8], at: usize, s: u32) -> Command
     if v == b'0' {
         return Command::Line(s, false);
     }
-    if v == b'1' {
+    let high = v == b'1';
+    if high {
         return Command::Line(s, true);
     }
     Command::Unreadable

@@ -1,4 +1,6 @@
 // The grammar of a replay line: what a line of bytes, without its line feed, asks for. Syntax only: what a command does is decided above.
+#![tactic(auto)]
+
 mod forms;
 mod scan;
 
@@ -31,7 +33,8 @@ pub enum Opening {
 fn letter_of(line: &[u8]) -> u8
     ensures { result ≡ letter_of line.now }
 {
-    if limits::LINE_ROOM < line.len() {
+    let too_long = limits::LINE_ROOM < line.len();
+    if too_long {
         return 0;
     }
     if line.len() < 2 {
@@ -73,7 +76,8 @@ fn opening_of(command: Command) -> Opening
 pub fn parse_opening(line: &[u8]) -> Opening
     ensures { result ≡ opening_of (command_of line.now) }
 {
-    if letter_of(line) == b'P' {
+    let opens = letter_of(line) == b'P';
+    if opens {
         return opening_of(make_of(line));
     }
     Opening::Unreadable

@@ -72,7 +72,8 @@ fn digits_from(line: &[u8], from: usize, first: u64) -> Value
             return Value::Nothing;
         }
         v = v * 10 + (wide(b) - 48);
-        if 4294967295 < v {
+        let past = 4294967295 < v;
+        if past {
             return Value::Nothing;
         }
         i += 1;
@@ -91,7 +92,8 @@ pub(crate) fn number_at(line: &[u8], at: usize) -> Value
     if !is_digit(b) {
         return Value::Nothing;
     }
-    if b == b'0' {
+    let zero = b == b'0';
+    if zero {
         return ends_with(line, at + 1, 0);
     }
     digits_from(line, at + 1, wide(b) - 48)

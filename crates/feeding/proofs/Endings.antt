@@ -2,11 +2,11 @@
 -- Assumes nothing.
 use mathlib.Core.Path.{◌≡◌, ◌∙◌, refl, sym, ap}
 use mathlib.Core.List.{List, [], ◌∷◌, ◌++◌}
-use Prim.Native.Nat.{ℕ, ◌+◌, ◌≤◌}
+use Prim.Native.Nat.{ℕ, ◌≤◌}
 use native.Mathlib.Omega.{arith}
 use lib.ListN.{length, take}
 use Rattle.replaying.specs.declared.Replaying.{Replaying}
-use Rattle.replaying.specs.Replay.{Stand, before, on, ended, answer, Replay, line_ends, fed, fed_all, last_in, closing, finished}
+use Rattle.replaying.specs.Replay.{Stand, before, on, ended, Replay, line_ends, fed, fed_all, last_in, closing, finished}
 use Rattle.replaying.specs.Pieces.{stand_of, shown, paused}
 use Rattle.replaying.proofs.Short.{answer_short}
 

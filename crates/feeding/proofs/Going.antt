@@ -65,16 +65,16 @@ module _ {s₀ s : State} {input out₀ out : List ℕ} {from at written end : �
           (subst (Written out₀ out from written) (sym (ap (λ (r : Replay). r.printed) whole)) g.prints);
       room = omega (arith, written_is, g.room, feeds_part at input, feeds_most input);
     };
-    stands = ap (λ (r : Replay). r.stand) whole ∙ ap on (sym state-is);
-    sound = subst Sound (sym state-is) g.sound;
+    stands = ap (λ (r : Replay). r.stand) whole ∙ ap on (sym state_is);
+    sound = subst Sound (sym state_is) g.sound;
     answers = omega (arith, written_is, g.room, feeds_part at input);
   }
     where
       written_is : p.written ≡ written
       written_is = ap (λ (k : Progress). k.written) e
 
-      state-is : p.replay.state ≡ s
-      state-is = ap (λ (k : Progress). k.replay.state) e
+      state_is : p.replay.state ≡ s
+      state_is = ap (λ (k : Progress). k.replay.state) e
 
       so_far : Replay
       so_far = fed_all (boarded s₀) (take at input)

@@ -71,12 +71,12 @@ pub ended_part : (l bytes : List ℕ) (held : ℕ) → bytes ≡ padded l → (l
 unfolding stand_in
 ended_part l bytes held e f g =
     let less : length (take held_room l) < held_room = omega (arith, f, length-take held_room l, min-le_left held_room (length l)) in
-    let short : length l ≤ line_room = short-of l less in
+    let short : length l ≤ line_room = short_of l less in
     let whole = ap (λ (k : ℕ). take k (padded l)) g ∙ padded_held l ∙ take_all held_room l (omega (arith, short)) ∙ sym (cond_not [] l (le-ltb line_room (length l) short)) in
     (ended_at l bytes held e (omega (arith, g, less)) whole, omega (arith, g, less))
   where
-    short-of : (l : List ℕ) → length (take held_room l) < held_room → length l ≤ line_room
-    short-of l h = ⊎_elim
+    short_of : (l : List ℕ) → length (take held_room l) < held_room → length l ≤ line_room
+    short_of l h = ⊎_elim
         (λ (t : So (ltb line_room (length l))). absurd (omega (arith, h, length-take-le held_room l (omega (arith, ltb-true line_room (length l) t)))))
         (λ t. ltb-false line_room (length l) t)
         (dichotomy (ltb line_room (length l)))

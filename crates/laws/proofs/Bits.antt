@@ -2,7 +2,7 @@
 -- Assumes nothing.
 use mathlib.Core.Path.{◌≡◌, ◌∙◌, refl, sym, ap, ap₂, subst}
 use mathlib.Core.Bool.{Bool, true, false, cond}
-use mathlib.Core.Logic.{◌⊎◌, ⊎_elim}
+use mathlib.Core.Logic.{⊎_elim}
 use Prim.Native.Nat.{ℕ, zero, suc, ◌+◌, ◌-◌, ◌*◌, ◌/◌, ◌%◌, ◌^◌, ◌<◌, ◌≤◌}
 use native.Mathlib.Nat.{le_refl, lt_of_lt_of_le, mod-eq_of_lt, mod-lt, div-eq_of_lt, pow-suc, eq-or-lt_of_le, mod-one, add-mul-mod_self_right, one-mul, mul_comm, zero-mul, add_comm, div-one, div-div-eq-div-mul}
 use native.Mathlib.Numerals.{add-one, one-add}

@@ -2,11 +2,11 @@
 -- no ground may rely on.
 -- Assumes nothing.
 use mathlib.Core.Path.{◌≡◌, ◌∙◌, refl, sym, ap}
-use mathlib.Core.Bool.{Bool, true, false, not, cond, ◌&&◌, So}
+use mathlib.Core.Bool.{Bool, true, false, not, ◌&&◌, So}
 use mathlib.Core.List.{List, [], ◌∷◌}
-use Prim.Native.Nat.{ℕ, suc, ◌+◌, ◌%◌, ◌≤◌, ◌<◌}
+use Prim.Native.Nat.{ℕ, suc, ◌+◌, ◌≤◌, ◌<◌}
 use native.Mathlib.Nat.{suc-ne-zero}
-use lib.Dec.{leb, ltb, eqb}
+use lib.Dec.{leb, ltb}
 use borrow.Author.Tests.{ltb-false, leb-true, leb-false, not-true, not-false}
 use Rattle.laws.proofs.Truth.{and_right}
 use Rattle.model.specs.Board.{is_source, is_context}
@@ -14,7 +14,7 @@ use Rattle.model.specs.declared.Refusal.{Refusal}
 use Rattle.model.specs.Refusals.{number_of, Ground, first_of}
 use Rattle.leaves.specs.declared.checks.Check.{Check}
 use Rattle.leaves.specs.declared.checks.Check.TheVariants.{Passed, Refused}
-use Rattle.leaves.specs.Checks.{check_number, step_grounds, line_grounds, advance_grounds, access_grounds, context_grounds, percentile_grounds}
+use Rattle.leaves.specs.Checks.{check_number, step_grounds, line_grounds, advance_grounds, context_grounds, percentile_grounds}
 
 -- a test that the code negates, where it stops at it and where it goes on
 module _ {test is : Bool} (says : test ≡ is) where

@@ -3,21 +3,20 @@
 use mathlib.Core.Path.{◌≡◌, ◌∙◌, refl, sym, ap, subst}
 use mathlib.Core.Bool.{Bool, true, false, cond, ◌&&◌, So}
 use mathlib.Core.Logic.{◌⊎◌, inl, inr, ⊎_elim}
-use mathlib.Core.List.{List, []}
+use mathlib.Core.List.{List}
 use Prim.Native.Nat.{ℕ, zero, suc, ◌-◌, ◌≤◌, ◌<◌}
 use native.Mathlib.Nat.{eq-or-lt_of_le}
-use lib.Dec.{leb, ltb, eqb}
+use lib.Dec.{leb, ltb}
 use lib.ListN.{get_or}
 use native.Mathlib.Omega.{arith}
-use borrow.Author.Tests.{ltb-true, ltb-false, leb-true, leb-false, le-leb, le-ltb, eqb-true, ne_eqb}
+use borrow.Author.Tests.{ltb-true, ltb-false, leb-true, leb-false, le-leb, le-ltb}
 use Rattle.laws.specs.Fold.{all_of, any_to, best}
 use Rattle.laws.proofs.Truth.{dichotomy, not_so, so_not, and_left, and_right, and_fails_left, cond_so, cond_not}
 use Rattle.laws.proofs.Fold.{any_at, best_is, best_once}
-use Rattle.model.specs.Board.{is_source, request, priority, enable_word, enabled}
-use Rattle.model.specs.Waits.{is_pending}
-use Rattle.model.specs.Life.{pending_for, eligible, rank, winner}
-use Rattle.model.proofs.Claim.{source_range, range_source, winner_is}
-use Rattle.leaves.specs.Leaves.{is_pending_in, enabled_in, pending_for_in, rank_in, winner_in, rouses_in}
+use Rattle.model.specs.Board.{is_source}
+use Rattle.model.specs.Life.{rank}
+use Rattle.model.proofs.Claim.{source_range, range_source}
+use Rattle.leaves.specs.Leaves.{is_pending_in, enabled_in, pending_for_in, rank_in, rouses_in}
 
 -- the priority of a source that is pending and enabled, and 0 of any other
 abbrev pub read_rank : List ℕ → List ℕ → List ℕ → ℕ → ℕ → ℕ

@@ -1,5 +1,7 @@
 // The leaves of the controller: they know numbers and lent arrays, no state and no text. An inner crate: its functions may ask things of
 // their callers, and only crates that carry a sound state list it.
+#![tactic(auto)]
+
 pub mod arbiter;
 pub mod checks;
 pub mod life;

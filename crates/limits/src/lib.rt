@@ -1,4 +1,5 @@
 // The limits of a board and of a script's line: each number stands here, and once more in specs/ for the definitions.
+#![tactic(auto)]
 
 // Room for sources, number 0 included, and the highest number of a source.
 pub const SOURCE_ROOM: usize = 128;

@@ -32,7 +32,7 @@ use Rattle.model.specs.Sound.{Roomy, Sound}
 use Rattle.model.specs.Calls.{Call, line, advance, read, write, notification, mean, by_claim, by_time, totals, is_step, values_of, effect, after, respond}
 use Rattle.model.specs.Refusals.{Outcome}
 use Rattle.model.specs.Run.{bit_of, bits_set, Event, claimed, finished, Past, swept, at_claim, claim_event, completion_event, happened, rises, grown, noted, claims_in, ticks_in, every, of_source, of_bucket, last_is_claim, Separate, ages_open, Accounted}
-use Rattle.model.proofs.Board.{request-same, request_other, request-sum}
+use Rattle.model.proofs.Board.{request_same, request_other, request_sum}
 use Rattle.model.proofs.Claim.{source_range, winner_is}
 use Rattle.model.proofs.Waits.{bucket_holds}
 use Rattle.model.proofs.Answers.{refused_gives, accepted_as}
@@ -203,13 +203,13 @@ later_board clock n q h =
 module _ (q : Requests) (i : ℕ) (r : Request) (room : Roomy q) where
   one_carried : (clock : ℕ) → Carries clock (request q i) r → (j : ℕ) → j < source_room → Carries clock (request q j) (request (set_request q i r) j)
   one_carried clock c j = same_or_other (λ j. j < source_room → Carries clock (request q j) (request (set_request q i r) j)) i j
-      (λ h. subst (Carries clock (request q i)) (sym (request-same q i r room h)) c)
+      (λ h. subst (Carries clock (request q i)) (sym (request_same q i r room h)) c)
       (λ ne h. subst (Carries clock (request q j)) (sym (request_other q i r j ne)) (carries_same clock _ _ refl refl))
 
   one_stage : (Why : ℕ → Type 0) → (Why i → r.stage ≡ 2) → ((j : ℕ) → j < source_room → j ≢ i → Why j → (request q j).stage ≡ 2) →
       (j : ℕ) → j < source_room → Why j → (request (set_request q i r) j).stage ≡ 2
   one_stage Why own others j = same_or_other (λ j. j < source_room → Why j → (request (set_request q i r) j).stage ≡ 2) i j
-      (λ h y. ap (λ (k : Request). k.stage) (request-same q i r room h) ∙ own y)
+      (λ h y. ap (λ (k : Request). k.stage) (request_same q i r room h) ∙ own y)
       (λ ne h y. ap (λ (k : Request). k.stage) (request_other q i r j ne) ∙ others j h ne y)
 
 module _ (s : State) (p : Past) (f : Logged s p) where
@@ -258,25 +258,25 @@ module _ (s : State) (p : Past) (f : Logged s p) where
     room : Roomy s.requests
     room = sound.types.requests
 
-    line-logged : (i : ℕ) (v : Bool) → Logged (with_steps (line_change s i v) m) (grown p s (with_steps (line_change s i v) m) 0 [])
+    line_logged : (i : ℕ) (v : Bool) → Logged (with_steps (line_change s i v) m) (grown p s (with_steps (line_change s i v) m) 0 [])
     unfolding with_steps line_change with_request
-    line-logged i v =
+    line_logged i v =
         let r : Request = request s.requests i in
         let k : Request = line_changed (kind_of s.shape i) s.clock v r in
         let l : Lined s.clock r k = lined s.clock v r (kind_of s.shape i) in
         carried _ [] refl refl refl (one_carried s.requests i k room s.clock l.0) (λ _. (refl, refl)) f.separate
         (λ j h y. one_stage s.requests i k room (λ j. (request s.requests j).stage ≡ 2) l.1 (λ _ _ _ e. e) j h ((f.at j h).serving y))
 
-    complete-logged : (c v : ℕ) → Logged (with_steps (complete_by s c v) m)
+    complete_logged : (c v : ℕ) → Logged (with_steps (complete_by s c v) m)
         (grown p s (with_steps (complete_by s c v) m) 0 (completion_event s v c))
     unfolding complete_by completion_event with_steps with_request
-    complete-logged c v = by_cases (takes_effect s c v) in-service
+    complete_logged c v = by_cases (takes_effect s c v) in_service
       where
         k : Request
         k = completed (kind_of s.shape v) s.clock (request s.requests v)
 
-        in-service : So (takes_effect s c v) → So (is_in_service (request s.requests v))
-        in-service t = ((takes_effect_iff s c v).0 t).service
+        in_service : So (takes_effect s c v) → So (is_in_service (request s.requests v))
+        in_service t = ((takes_effect_iff s c v).0 t).service
 
         ended : last_is_claim v (finished v ∷ p.events) ≡ false
         ended = unfold last_is_claim in cond_so _ _ (eq-eqb v v refl)
@@ -297,9 +297,9 @@ module _ (s : State) (p : Past) (f : Logged s p) where
         by_cases false service = quiet _ refl refl refl refl
 
     -- the clock advances
-    advance-logged : (n : ℕ) → Logged (with_steps (advanced s n) m) (grown p s (with_steps (advanced s n) m) (n * bits_set s) [])
+    advance_logged : (n : ℕ) → Logged (with_steps (advanced s n) m) (grown p s (with_steps (advanced s n) m) (n * bits_set s) [])
     unfolding with_steps advanced with_clock grown rises bit_of bits_set
-    advance-logged n = record {
+    advance_logged n = record {
       at = λ i h. at_carried i (s.clock + n) (source_claims s.counts i) (source_waited s.counts i) (p.rose i) (p.since i)
           (request s.requests i) (request s.requests i) p.events p.events
           (f.at i h) (carries_same (s.clock + n) _ _ refl refl) refl refl (f.at i h).serving;
@@ -376,11 +376,11 @@ module _ (s : State) (p : Past) (f : Logged s p) where
           before : last_is_claim j es ≡ last_is_claim j p.events
           before = unfold last_is_claim in cond_not _ _ differs
 
-      claim-of-logged : Logged (with_steps (claim_of s i) m) (grown p s (with_steps (claim_of s i) m) 0 (claimed i w ∷ []))
+      claim_of_logged : Logged (with_steps (claim_of s i) m) (grown p s (with_steps (claim_of s i) m) 0 (claimed i w ∷ []))
       unfolding with_steps claim_of with_counts with_request grown rises bit_of
-      claim-of-logged = record {
+      claim_of_logged = record {
         at = λ j. same_or_other (λ j. j < source_room → AtThen j (request (set_request s.requests i (served r)) j)) i j
-            (λ l. subst (AtThen i) (sym (request-same s.requests i (served r) room l)) own)
+            (λ l. subst (AtThen i) (sym (request_same s.requests i (served r) room l)) own)
             (λ ne l. subst (AtThen j) (sym (request_other s.requests i (served r) j ne)) (other j l ne));
         bucket = λ k. same_or_other
             (λ k. k < bucket_room → (bucket_claims (booked s.buckets w) k ≡ claims_in (of_bucket k) es)
@@ -395,7 +395,7 @@ module _ (s : State) (p : Past) (f : Logged s p) where
               rest.0 ∙ (f.bucket k l).0 ∙ sym (passed_over (of_bucket k) differs).0,
               rest.1 ∙ (f.bucket k l).1 ∙ sym (passed_over (of_bucket k) differs).1,
             ));
-        separate = (so_not (last_is_claim i p.events) (λ y. absurd (omega (arith, (f.at i h).serving y, stage-one))), f.separate);
+        separate = (so_not (last_is_claim i p.events) (λ y. absurd (omega (arith, (f.at i h).serving y, stage_one))), f.separate);
         claims = omega (arith, sums.0, f.claims, (picked every refl).0);
         waited = omega (arith, sums.1, f.waited, (picked every refl).1);
         area = omega (arith, f.area, (picked every refl).1, ages);
@@ -409,37 +409,37 @@ module _ (s : State) (p : Past) (f : Logged s p) where
               × (board_waited (counted s.counts i w) ≡ board_waited s.counts + w)
           sums = counted_sums s.counts i w h sound.types.claims sound.types.waited
 
-          stage-one : r.stage ≡ 1
-          stage-one = eqb-true r.stage 1 (unfold is_pending in pending)
+          stage_one : r.stage ≡ 1
+          stage_one = eqb-true r.stage 1 (unfold is_pending in pending)
 
-          open-was : open_age s.clock r ≡ w
-          open-was = unfold open_age wait in cond_so _ _ pending
+          open_was : open_age s.clock r ≡ w
+          open_was = unfold open_age wait in cond_so _ _ pending
 
           open_is : open_age s.clock (served r) ≡ 0
           open_is = unfold open_age is_pending served in refl
 
           ages : board_open s.clock (set_request s.requests i (served r)) + w ≡ board_open s.clock s.requests
-          ages = unfold board_open in omega (arith, request-sum s.requests i (served r) room (open_age s.clock) h, open-was, open_is)
+          ages = unfold board_open in omega (arith, request_sum s.requests i (served r) room (open_age s.clock) h, open_was, open_is)
 
       -- the wait booked is the one that the run tells
-      wait-logged : Logged (with_steps (claim_of s i) m) (grown p s (with_steps (claim_of s i) m) 0 (claimed i (s.clock - p.since i) ∷ []))
-      wait-logged = subst (λ (x : ℕ). Logged (with_steps (claim_of s i) m) (grown p s (with_steps (claim_of s i) m) 0 (claimed i x ∷ [])))
-          same-wait claim-of-logged
+      wait_logged : Logged (with_steps (claim_of s i) m) (grown p s (with_steps (claim_of s i) m) 0 (claimed i (s.clock - p.since i) ∷ []))
+      wait_logged = subst (λ (x : ℕ). Logged (with_steps (claim_of s i) m) (grown p s (with_steps (claim_of s i) m) 0 (claimed i x ∷ [])))
+          same_wait claim_of_logged
         where
-          same-wait : w ≡ s.clock - p.since i
-          same-wait = unfold wait in ap (λ (x : ℕ). s.clock - x) ((f.at i h).started pending)
+          same_wait : w ≡ s.clock - p.since i
+          same_wait = unfold wait in ap (λ (x : ℕ). s.clock - x) ((f.at i h).started pending)
 
     -- a step that changes nothing but the count
     counted_step : Logged (with_steps s m) (grown p s (with_steps s m) 0 [])
     unfolding with_steps
     counted_step = quiet _ refl refl refl refl
 
-    claim-logged : (c : ℕ) → Logged (with_steps (claim_by s c) m)
+    claim_logged : (c : ℕ) → Logged (with_steps (claim_by s c) m)
         (grown p s (with_steps (claim_by s c) m) 0 (claim_event s p.since (winner s c)))
     unfolding claim_by claim_event
-    claim-logged c = by_cases (eqb (winner s c) 0) (λ t.
+    claim_logged c = by_cases (eqb (winner s c) 0) (λ t.
         let own = ((winner_is s c).some (eqb-false (winner s c) 0 t)).0 in
-        wait-logged (winner s c)
+        wait_logged (winner s c)
         (omega (arith, (source_range s.shape.sources (winner s c) own.source).1, sound.limits.sources.1)) own.pending)
       where
         by_cases : (b : Bool) → (b ≡ false → Logged (with_steps (claim_of s (winner s c)) m)
@@ -450,48 +450,48 @@ module _ (s : State) (p : Past) (f : Logged s p) where
         by_cases true _ = counted_step
         by_cases false k = k refl
 
-    read-logged : (r : Register) → Logged (with_steps (after_read s r) m)
+    read_logged : (r : Register) → Logged (with_steps (after_read s r) m)
         (grown p s (with_steps (after_read s r) m) 0 (at_claim r (λ c. claim_event s p.since (read_of s r))))
     unfolding after_read read_of at_claim
-    read-logged (Priority i) = counted_step
-    read-logged (Pending k) = counted_step
-    read-logged (Enable c k) = counted_step
-    read-logged (Threshold c) = counted_step
-    read-logged (Claim c) = claim-logged c
-    read-logged Nothing = counted_step
+    read_logged (Priority i) = counted_step
+    read_logged (Pending k) = counted_step
+    read_logged (Enable c k) = counted_step
+    read_logged (Threshold c) = counted_step
+    read_logged (Claim c) = claim_logged c
+    read_logged Nothing = counted_step
 
-    write-logged : (r : Register) (v : ℕ) → Logged (with_steps (after_write s r v) m)
+    write_logged : (r : Register) (v : ℕ) → Logged (with_steps (after_write s r v) m)
         (grown p s (with_steps (after_write s r v) m) 0 (at_claim r (completion_event s v)))
     unfolding after_write at_claim with_steps with_priority with_enable with_threshold with_settings
-    write-logged (Priority i) v = quiet _ refl refl refl refl
-    write-logged (Pending k) v = quiet _ refl refl refl refl
-    write-logged (Enable c k) v = quiet _ refl refl refl refl
-    write-logged (Threshold c) v = quiet _ refl refl refl refl
-    write-logged (Claim c) v = complete-logged c v
-    write-logged Nothing v = quiet _ refl refl refl refl
+    write_logged (Priority i) v = quiet _ refl refl refl refl
+    write_logged (Pending k) v = quiet _ refl refl refl refl
+    write_logged (Enable c k) v = quiet _ refl refl refl refl
+    write_logged (Threshold c) v = quiet _ refl refl refl refl
+    write_logged (Claim c) v = complete_logged c v
+    write_logged Nothing v = quiet _ refl refl refl refl
 
   module _ (sound : Sound s) where
     unmoved : Logged s (grown p s s 0 [])
     unmoved = quiet s refl refl refl refl
 
-    accepted-logged : (a : Call) →
+    accepted_logged : (a : Call) →
         Logged (after a s) (grown p s (after a s) (swept a s) (happened a s (get_or (values_of a s) 0 0) p.since))
     unfolding after is_step effect swept happened values_of
-    accepted-logged (line i v) = line-logged sound _ i v
-    accepted-logged (advance n) = advance-logged sound _ n
-    accepted-logged (read off) = read-logged sound _ (decode s.shape.sources s.shape.contexts off)
-    accepted-logged (write off v) = write-logged sound _ (decode s.shape.sources s.shape.contexts off) v
-    accepted-logged (notification c) = unmoved
-    accepted-logged mean = unmoved
-    accepted-logged (by_claim q) = unmoved
-    accepted-logged (by_time q) = unmoved
-    accepted-logged totals = unmoved
+    accepted_logged (line i v) = line_logged sound _ i v
+    accepted_logged (advance n) = advance_logged sound _ n
+    accepted_logged (read off) = read_logged sound _ (decode s.shape.sources s.shape.contexts off)
+    accepted_logged (write off v) = write_logged sound _ (decode s.shape.sources s.shape.contexts off) v
+    accepted_logged (notification c) = unmoved
+    accepted_logged mean = unmoved
+    accepted_logged (by_claim q) = unmoved
+    accepted_logged (by_time q) = unmoved
+    accepted_logged totals = unmoved
 
-    pub respond-logged : (a : Call) → Logged (respond a s).state (noted p a s (respond a s))
+    pub respond_logged : (a : Call) → Logged (respond a s).state (noted p a s (respond a s))
     unfolding noted
-    respond-logged a = ⊎_elim
+    respond_logged a = ⊎_elim
         (λ (t : So (eqb (respond a s).number 0)).
-        subst (λ (o : Outcome). Logged o.state (noted p a s o)) (sym (accepted_as a s (unfold respond in eqb-true _ 0 t))) (accepted-logged a))
+        subst (λ (o : Outcome). Logged o.state (noted p a s o)) (sym (accepted_as a s (unfold respond in eqb-true _ 0 t))) (accepted_logged a))
         (λ t. refused (eqb (respond a s).number 0) t (respond a s).state (refused_gives a s (eqb-false _ 0 t)).1 _ _)
         (dichotomy (eqb (respond a s).number 0))
       where
@@ -501,11 +501,11 @@ module _ (s : State) (p : Past) (f : Logged s p) where
   -- the stored ages are those that the run tells
   told_ages : board_open s.clock s.requests ≡ ages_open s p
   unfolding board_open ages_open bit_of open_age
-  told_ages = sum_ext _ _ source_room (λ i h. same-age (is_pending (request s.requests i)) _ _ (f.at i h).started)
+  told_ages = sum_ext _ _ source_room (λ i h. same_age (is_pending (request s.requests i)) _ _ (f.at i h).started)
     where
-      same-age : (b : Bool) (x y : ℕ) → (So b → x ≡ y) → cond b (s.clock - x) 0 ≡ cond b (s.clock - y) 0
-      same-age true x y e = ap (λ (z : ℕ). s.clock - z) (e refl)
-      same-age false x y e = refl
+      same_age : (b : Bool) (x y : ℕ) → (So b → x ≡ y) → cond b (s.clock - x) 0 ≡ cond b (s.clock - y) 0
+      same_age true x y e = ap (λ (z : ℕ). s.clock - z) (e refl)
+      same_age false x y e = refl
 
   pub logged_accounted : Sound s → Accounted s p
   unfolding bit_of values_of

@@ -26,18 +26,18 @@ module _ (q : Requests) (i : ℕ) (r : Request) where
   }
 
   module _ (room : Roomy q) where
-    pub roomy-set : Roomy (set_request q i r)
+    pub roomy_set : Roomy (set_request q i r)
     unfolding set_request
-    roomy-set = record {
+    roomy_set = record {
       stage = length-set q.stage i r.stage ∙ room.stage;
       line = length-set q.line i r.line ∙ room.line;
       extra = length-set q.extra i r.extra ∙ room.extra;
       start = length-set q.start i r.start ∙ room.start;
     }
 
-    pub request-same : i < source_room → request (set_request q i r) i ≡ r
+    pub request_same : i < source_room → request (set_request q i r) i ≡ r
     unfolding request set_request
-    request-same h = λ k. record {
+    request_same h = λ k. record {
       stage = get_or-set_same q.stage i r.stage 0 (omega (arith, room.stage)) k;
       line = get_or-set_same q.line i r.line false (omega (arith, room.line)) k;
       extra = get_or-set_same q.extra i r.extra 0 (omega (arith, room.extra)) k;
@@ -45,11 +45,11 @@ module _ (q : Requests) (i : ℕ) (r : Request) where
     }
 
     -- a sum over all sources changes by as much as the one does
-    pub request-sum : (f : Request → ℕ) → i < source_room →
+    pub request_sum : (f : Request → ℕ) → i < source_room →
         sum_to (λ j. f (request (set_request q i r) j)) source_room + f (request q i) ≡ sum_to (λ j. f (request q j)) source_room + f r
-    request-sum f h =
+    request_sum f h =
         sum_change (λ j. f (request q j)) (λ j. f (request (set_request q i r) j)) source_room i h (λ j ne. sym (ap f (request_other j ne)))
-        ∙ ap (λ (x : ℕ). sum_to (λ j. f (request q j)) source_room + x) (ap f (request-same h))
+        ∙ ap (λ (x : ℕ). sum_to (λ j. f (request q j)) source_room + x) (ap f (request_same h))
 
 -- putting back what was read changes nothing
 pub request_back : (q : Requests) (i : ℕ) → set_request q i (request q i) ≡ q

@@ -17,7 +17,7 @@ use Rattle.model.specs.Waits.{is_in_service, wait, bucket_of, counted, booked, s
 use Rattle.model.specs.Life.{winner, served, claim_of, claim_by}
 use Rattle.model.specs.Registers.{read_of, after_read}
 use Rattle.model.specs.Sound.{Sound}
-use Rattle.model.proofs.Board.{request-same, request_other}
+use Rattle.model.proofs.Board.{request_same, request_other}
 use Rattle.model.proofs.Claim.{winner_is}
 use Rattle.model.proofs.Waits.{bucket_holds}
 use Rattle.model.proofs.Tallies.{counted_same, counted_other}
@@ -39,7 +39,7 @@ module _ (s : State) (sound : Sound s) (c : ℕ) where
   claim_booked : (i : ℕ) → So (is_source s.shape.sources i) → Booked s (claim_of s i) i (wait s.clock (request s.requests i))
   unfolding claim_of with_counts with_request
   claim_booked i source = record {
-    service = subst (λ (r : Request). So (is_in_service r)) (sym (request-same s.requests i _ sound.types.requests room))
+    service = subst (λ (r : Request). So (is_in_service r)) (sym (request_same s.requests i _ sound.types.requests room))
         (unfold served is_in_service in refl);
     claims = counts.0;
     waited = counts.1;

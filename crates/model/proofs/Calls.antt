@@ -14,7 +14,7 @@ use Rattle.model.specs.Registers.{decode}
 use Rattle.model.specs.Sound.{Sound}
 use Rattle.model.specs.Calls.{Call, line, advance, read, write, notification, mean, by_claim, by_time, totals, is_step, not_sound, no_step_left, offset_unaligned, no_such_source, clock_past, grounds, effect, after, respond}
 use Rattle.model.proofs.Sound.{sound_facts}
-use Rattle.model.proofs.Registers.{decode-iff}
+use Rattle.model.proofs.Registers.{decode_iff}
 use Rattle.model.proofs.Steps.{line_step, advance_step, read_step, write_step}
 use Rattle.model.proofs.Answers.{accepted_gives, none_holds}
 pub use Rattle.model.proofs.Answers.{number_smallest, refused_gives, step_counts, others_leave, first_hit, first_miss, clear, refused_as, accepted_as}
@@ -56,7 +56,7 @@ module _ (s : State) where
       let n : ℕ = s.shape.sources in
       let m : ℕ = s.shape.contexts in
       write_step s was (had_room (write off v) s e second) off (decode n m off) v
-      (λ ne. (decode-iff n m off (was.limits.sources.1, was.limits.contexts.1) (aligned off v e) (decode n m off) ne).0 refl)
+      (λ ne. (decode_iff n m off (was.limits.sources.1, was.limits.contexts.1) (aligned off v e) (decode n m off) ne).0 refl)
   after_sound (notification c) e = was_sound (notification c) s e first
   after_sound mean e = was_sound mean s e first
   after_sound (by_claim p) e = was_sound (by_claim p) s e first

@@ -2,7 +2,7 @@
 -- Assumes nothing.
 use mathlib.Core.Path.{◌≡◌, ◌∙◌, refl, sym, ap, subst, subst₃}
 use mathlib.Core.Bool.{Bool, true, false, cond, So}
-use mathlib.Core.Logic.{◌⊎◌, ⊎_elim, ◌≢◌}
+use mathlib.Core.Logic.{⊎_elim, ◌≢◌}
 use Prim.Native.Nat.{ℕ, ◌+◌, ◌-◌, ◌*◌, ◌%◌, ◌^◌, ◌≤◌, ◌<◌}
 use native.Mathlib.Nat.{mod-lt}
 use native.Mathlib.Omega.{arith}
@@ -29,7 +29,7 @@ use Rattle.model.specs.Sound.{SoundSource, SoundContext, Sound}
 use Rattle.model.proofs.Sound.{kept_bit, kept_above}
 use Rattle.model.proofs.Claim.{source_range}
 use Rattle.model.proofs.Registers.{context_range}
-use Rattle.model.proofs.Board.{request-same, request_other, roomy-set}
+use Rattle.model.proofs.Board.{request_same, request_other, roomy_set}
 
 -- a number reduced mod 2^b is at most 2^b - 1
 reduced_le : (v b : ℕ) → v % 2 ^ b ≤ 2 ^ b - 1
@@ -198,7 +198,7 @@ module _ (s : State) (f : Sound s) where
       priority = f.types.priority;
       enable = f.types.enable;
       threshold = f.types.threshold;
-      requests = roomy-set s.requests i r f.types.requests;
+      requests = roomy_set s.requests i r f.types.requests;
       claims = counts-long.0;
       waited = counts-long.1;
       bucket_claims = buckets-long.0;
@@ -211,7 +211,7 @@ module _ (s : State) (f : Sound s) where
         (λ j. SoundSource s.shape s.clock j (priority s.settings j) (source_claims k j) (source_waited k j)
         (request (set_request s.requests i r) j)) i j
         (subst (SoundSource s.shape s.clock i (priority s.settings i) (source_claims k i) (source_waited k i))
-        (sym (request-same s.requests i r f.types.requests below)) fine)
+        (sym (request_same s.requests i r f.types.requests below)) fine)
         (λ ne. subst₃ (SoundSource s.shape s.clock j (priority s.settings j))
         (sym (others j ne).0) (sym (others j ne).1) (sym (request_other s.requests i r j ne)) (f.source j h));
     context = f.context;
@@ -225,7 +225,7 @@ module _ (s : State) (f : Sound s) where
   pub sound_priority : (i v : ℕ) → So (is_source s.shape.sources i) → Sound (with_priority s i v)
   unfolding with_priority
   sound_priority i v source = sound_settings changed
-      (length-set s.settings.priority i kept-value ∙ f.types.priority) f.types.enable f.types.threshold
+      (length-set s.settings.priority i kept_value ∙ f.types.priority) f.types.enable f.types.threshold
       (λ j h. same_or_other (λ j. (priority changed j ≤ most) × (is_source s.shape.sources j ≡ false → priority changed j ≡ 0)) i j
       (subst (λ (x : ℕ). x ≤ most) (sym new) (reduced_le v s.shape.bits), λ e. absurd (not_so e source))
       (λ ne. (
@@ -237,22 +237,22 @@ module _ (s : State) (f : Sound s) where
       most : ℕ
       most = 2 ^ s.shape.bits - 1
 
-      kept-value : ℕ
-      kept-value = v % 2 ^ s.shape.bits
+      kept_value : ℕ
+      kept_value = v % 2 ^ s.shape.bits
 
       changed : Settings
       changed = record {
-        priority = set s.settings.priority i kept-value;
+        priority = set s.settings.priority i kept_value;
         enable = s.settings.enable;
         threshold = s.settings.threshold;
       }
 
-      new : priority changed i ≡ kept-value
-      new = unfold priority in get_or-set_same s.settings.priority i kept-value 0
+      new : priority changed i ≡ kept_value
+      new = unfold priority in get_or-set_same s.settings.priority i kept_value 0
           (omega (arith, f.types.priority, (source_range s.shape.sources i source).1, f.limits.sources.1))
 
       old : (j : ℕ) → j ≢ i → priority changed j ≡ priority s.settings j
-      old j ne = unfold priority in get_or-set_other s.settings.priority i j kept-value 0 ne
+      old j ne = unfold priority in get_or-set_other s.settings.priority i j kept_value 0 ne
 
   -- the priorities of a state as they stand
   as_they_stand : (i : ℕ) → i < source_room →
@@ -262,28 +262,28 @@ module _ (s : State) (f : Sound s) where
   pub sound_threshold : (c v : ℕ) → So (is_context s.shape.contexts c) → Sound (with_threshold s c v)
   unfolding with_threshold
   sound_threshold c v there = sound_settings changed
-      f.types.priority f.types.enable (length-set s.settings.threshold c kept-value ∙ f.types.threshold)
+      f.types.priority f.types.enable (length-set s.settings.threshold c kept_value ∙ f.types.threshold)
       (λ j h. unfold priority in as_they_stand j h)
       (λ d h. same_or_other (SoundContext s.shape changed) c d (own (f.context c (omega (arith, inside, f.limits.contexts.1))))
       (λ ne. same_context s.shape s.settings changed d
-      (unfold threshold in get_or-set_other s.settings.threshold c d kept-value 0 ne) (λ _ _. unfold enable_word in refl)
+      (unfold threshold in get_or-set_other s.settings.threshold c d kept_value 0 ne) (λ _ _. unfold enable_word in refl)
       (f.context d h)))
     where
       inside : c < s.shape.contexts
       inside = context_range s.shape.contexts c there
 
-      kept-value : ℕ
-      kept-value = v % 2 ^ s.shape.bits
+      kept_value : ℕ
+      kept_value = v % 2 ^ s.shape.bits
 
       changed : Settings
       changed = record {
         priority = s.settings.priority;
         enable = s.settings.enable;
-        threshold = set s.settings.threshold c kept-value;
+        threshold = set s.settings.threshold c kept_value;
       }
 
-      new : threshold changed c ≡ kept-value
-      new = unfold threshold in get_or-set_same s.settings.threshold c kept-value 0
+      new : threshold changed c ≡ kept_value
+      new = unfold threshold in get_or-set_same s.settings.threshold c kept_value 0
           (omega (arith, f.types.threshold, inside, f.limits.contexts.1))
 
       own : SoundContext s.shape s.settings c → SoundContext s.shape changed c

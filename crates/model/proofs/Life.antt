@@ -75,34 +75,34 @@ module _ (h : Shape) (clock i prio claimed waited : ℕ) (source : So (is_source
   }
 
   module _ (v : Bool) (r : Request) (f : Fine r) where
-    line-raised : Fine (raised clock (line_at v r))
+    line_raised : Fine (raised clock (line_at v r))
     unfolding line_at
-    line-raised = raised_fine r (line_at v r) f f.extra f.counting
+    line_raised = raised_fine r (line_at v r) f f.extra f.counting
 
     -- "Level. Idle with the line high becomes pending at once."
-    level-fine : Fine (level_changed clock v r)
+    level_fine : Fine (level_changed clock v r)
     unfolding level_changed
-    level-fine = cond_elim Fine (is_idle r && v) (λ _. line-raised)
+    level_fine = cond_elim Fine (is_idle r && v) (λ _. line_raised)
         (λ t. line_fine v r f (λ _ a b. not_so t (and_intro a b)))
 
-    edge-fine : kind_of h i ≢ 0 → Fine (edge_changed (kind_of h i) clock v r)
+    edge_fine : kind_of h i ≢ 0 → Fine (edge_changed (kind_of h i) clock v r)
     unfolding edge_changed
-    edge-fine edge = cond_elim Fine (not r.line && v)
-        (λ _. cond_elim Fine (is_idle r) (λ _. line-raised)
+    edge_fine edge = cond_elim Fine (not r.line && v)
+        (λ _. cond_elim Fine (is_idle r) (λ _. line_raised)
         (λ busy. cond_elim Fine (eqb (kind_of h i) 2)
-        (λ two. counted_fine (line_at v r) quiet (line-busy busy) (eqb-true _ _ two))
+        (λ two. counted_fine (line_at v r) quiet (line_busy busy) (eqb-true _ _ two))
         (λ _. quiet)))
         (λ _. quiet)
       where
         quiet : Fine (line_at v r)
         quiet = line_fine v r f (λ k. absurd (edge k))
 
-        line-busy : is_idle r ≡ false → is_idle (line_at v r) ≡ false
-        line-busy e = unfold line_at is_idle in e
+        line_busy : is_idle r ≡ false → is_idle (line_at v r) ≡ false
+        line_busy e = unfold line_at is_idle in e
 
     pub line_kept : Fine (line_changed (kind_of h i) clock v r)
     unfolding line_changed
-    line_kept = cond_elim Fine (eqb (kind_of h i) 0) (λ _. level-fine) (λ t. edge-fine (eqb-false _ _ t))
+    line_kept = cond_elim Fine (eqb (kind_of h i) 0) (λ _. level_fine) (λ t. edge_fine (eqb-false _ _ t))
 
   -- "It goes into service and its wait is booked."
   pub served_kept : (r : Request) → Fine r → So (is_pending r) →

@@ -135,16 +135,16 @@ module _ (n c b : ℕ) (kinds : List ℕ) (limits : WithinLimits n c b) (long : 
         (unfold priority in get_or-replicate source_room i 0 0 l) (unfold source_claims in get_or-replicate source_room i 0 0 l)
         (unfold source_waited in get_or-replicate source_room i 0 0 l));
     context = zero_context;
-    claims = omega (arith, no-claims);
-    claims_booked = no-claims ∙ sym (sum_zero (bucket_claims (fresh_in h).buckets) bucket_room (λ k l. unfold bucket_claims in get_or-replicate bucket_room k 0 0 l));
-    ticks_booked = no-ticks ∙ sym (sum_zero (bucket_ticks (fresh_in h).buckets) bucket_room (λ k l. unfold bucket_ticks in get_or-replicate bucket_room k 0 0 l));
+    claims = omega (arith, no_claims);
+    claims_booked = no_claims ∙ sym (sum_zero (bucket_claims (fresh_in h).buckets) bucket_room (λ k l. unfold bucket_claims in get_or-replicate bucket_room k 0 0 l));
+    ticks_booked = no_ticks ∙ sym (sum_zero (bucket_ticks (fresh_in h).buckets) bucket_room (λ k l. unfold bucket_ticks in get_or-replicate bucket_room k 0 0 l));
   }
     where
-      no-claims : board_claims (fresh_in h).counts ≡ 0
-      no-claims = unfold board_claims source_claims in sum_zero _ source_room (λ i l. get_or-replicate source_room i 0 0 l)
+      no_claims : board_claims (fresh_in h).counts ≡ 0
+      no_claims = unfold board_claims source_claims in sum_zero _ source_room (λ i l. get_or-replicate source_room i 0 0 l)
 
-      no-ticks : board_waited (fresh_in h).counts ≡ 0
-      no-ticks = unfold board_waited source_waited in sum_zero _ source_room (λ i l. get_or-replicate source_room i 0 0 l)
+      no_ticks : board_waited (fresh_in h).counts ≡ 0
+      no_ticks = unfold board_waited source_waited in sum_zero _ source_room (λ i l. get_or-replicate source_room i 0 0 l)
 
 -- the cases of making
 
@@ -220,8 +220,8 @@ bad_shape_iff n c b kinds = (refused, (λ m. (unmade_when n c b kinds (so_not _ 
     right = all_to (λ i. leb (get_or kinds i 0) 2) (length kinds)
 
     -- within the limits, the kinds are wrong
-    by-kinds : WithinLimits n c b → (make n c b kinds).number ≡ 1 → Misshapen n c b kinds
-    by-kinds limits e = ⊎_elim
+    by_kinds : WithinLimits n c b → (make n c b kinds).number ≡ 1 → Misshapen n c b kinds
+    by_kinds limits e = ⊎_elim
         (λ (long : So (eqb (length kinds) n)). ⊎_elim
         (λ (t : So right). absurd (omega (arith, e, (made_when n c b kinds (and_intro (limits_test n c b limits) (and_intro long t))).0)))
         (λ t. let one = fails_at _ (length kinds) t in kind one.0 one.1 (leb-false (get_or kinds one.0 0) 2 one.2))
@@ -232,7 +232,7 @@ bad_shape_iff n c b kinds = (refused, (λ m. (unmade_when n c b kinds (so_not _ 
     refused : (make n c b kinds).number ≡ 1 → Misshapen n c b kinds
     refused e = ⊎_elim
         (λ ns. ⊎_elim
-        (λ cs. ⊎_elim (λ bs. by-kinds (record { sources = ns; contexts = cs; bits = bs }) e) bits (in_or_out most_bits b))
+        (λ cs. ⊎_elim (λ bs. by_kinds (record { sources = ns; contexts = cs; bits = bs }) e) bits (in_or_out most_bits b))
         contexts (in_or_out context_room c))
         sources (in_or_out last_source n)
 

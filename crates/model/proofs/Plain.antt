@@ -19,7 +19,7 @@ use Rattle.model.specs.Waits.{is_idle, is_pending, is_in_service}
 use Rattle.model.specs.Life.{line_at, advanced, raised, edge_counted, level_changed, edge_changed, line_changed, line_change, takes_effect, TakesEffect, idled, edge_taken, completed, complete_by}
 use Rattle.model.specs.Registers.{after_write}
 use Rattle.model.specs.Sound.{Sound}
-use Rattle.model.proofs.Board.{request-same, request_other}
+use Rattle.model.proofs.Board.{request_same, request_other}
 use Rattle.model.proofs.Claim.{source_range}
 
 -- "It takes effect exactly if v is in 1..N, enabled in c now, and in service."
@@ -54,7 +54,7 @@ module _ (s : State) (sound : Sound s) (i : ℕ) (source : So (is_source s.shape
 
   lined_is : (v : Bool) → lined v ≡ line_changed (kind_of s.shape i) s.clock v now
   unfolding line_change with_request
-  lined_is v = request-same s.requests i _ sound.types.requests here
+  lined_is v = request_same s.requests i _ sound.types.requests here
 
   raised_from : (r : Request) → PendingFrom s.clock (raised s.clock r)
   unfolding raised is_pending
@@ -80,25 +80,25 @@ module _ (s : State) (sound : Sound s) (i : ℕ) (source : So (is_source s.shape
       (λ _. cond_elim (SameButLine now) (not now.line && false) (λ t. absurd (not_so (and_fails_right (not now.line) refl) t)) (λ _. line_alone false)))
 
   module _ (edge : kind_of s.shape i ≢ 0) where
-    edge-is : (v : Bool) → lined v ≡ edge_changed (kind_of s.shape i) s.clock v now
+    edge_is : (v : Bool) → lined v ≡ edge_changed (kind_of s.shape i) s.clock v now
     unfolding line_changed
-    edge-is v = lined_is v ∙ cond_not _ _ (ne_eqb _ 0 edge)
+    edge_is v = lined_is v ∙ cond_not _ _ (ne_eqb _ 0 edge)
 
-    rise-is : now.line ≡ false →
+    rise_is : now.line ≡ false →
         lined true ≡ cond (is_idle now) (raised s.clock (line_at true now))
         (cond (eqb (kind_of s.shape i) 2) (edge_counted (line_at true now)) (line_at true now))
     unfolding edge_changed
-    rise-is low = edge-is true ∙ cond_so _ _ (and_intro (ap not low) refl)
+    rise_is low = edge_is true ∙ cond_so _ _ (and_intro (ap not low) refl)
 
     -- "Edge. A change from low to high makes an idle source pending."
-    pub edge-rises : now.line ≡ false → So (is_idle now) → PendingFrom s.clock (lined true)
-    edge-rises low idle = subst (PendingFrom s.clock) (sym (rise-is low ∙ cond_so _ _ idle)) (raised_from (line_at true now))
+    pub edge_rises : now.line ≡ false → So (is_idle now) → PendingFrom s.clock (lined true)
+    edge_rises low idle = subst (PendingFrom s.clock) (sym (rise_is low ∙ cond_so _ _ idle)) (raised_from (line_at true now))
 
   -- "Otherwise kind 1 ignores it .."
   pub edge_ignored : kind_of s.shape i ≡ 1 → now.line ≡ false → is_idle now ≡ false → SameButLine now (lined true)
   edge_ignored one low busy =
       let not-two = ne_eqb (kind_of s.shape i) 2 (λ e. omega (arith, e, one)) in
-      subst (SameButLine now) (sym (rise-is (λ e. omega (arith, e, one)) low ∙ cond_not _ _ busy ∙ cond_not _ _ not-two)) (line_alone true)
+      subst (SameButLine now) (sym (rise_is (λ e. omega (arith, e, one)) low ∙ cond_not _ _ busy ∙ cond_not _ _ not-two)) (line_alone true)
 
   -- ".. and kind 2 adds one to its extra edges, staying at 255 once there."
   pub edge_is_counted : kind_of s.shape i ≡ 2 → now.line ≡ false → is_idle now ≡ false →
@@ -113,7 +113,7 @@ module _ (s : State) (sound : Sound s) (i : ℕ) (source : So (is_source s.shape
   )
     where
       is : lined true ≡ edge_counted (line_at true now)
-      is = rise-is (λ e. omega (arith, e, two)) low ∙ cond_not _ _ busy ∙ cond_so _ _ (eq-eqb _ 2 two)
+      is = rise_is (λ e. omega (arith, e, two)) low ∙ cond_not _ _ busy ∙ cond_so _ _ (eq-eqb _ 2 two)
 
   -- the line is then as it was set
   pub line_is_set : (v : Bool) → (lined v).line ≡ v
@@ -169,33 +169,33 @@ module _ (s : State) (sound : Sound s) (c v : ℕ) where
     abbrev done : Request
     done = request (after_write s (Claim c) v).requests v
 
-    done-is : done ≡ completed (kind_of s.shape v) s.clock was
+    done_is : done ≡ completed (kind_of s.shape v) s.clock was
     unfolding after_write complete_by
-    done-is = ap (λ (t : State). request t.requests v) (cond_so _ _ ((takes_effect_iff s c v).1 takes))
-        ∙ (unfold with_request in request-same s.requests v _ sound.types.requests (here s sound v takes.source))
+    done_is = ap (λ (t : State). request t.requests v) (cond_so _ _ ((takes_effect_iff s c v).1 takes))
+        ∙ (unfold with_request in request_same s.requests v _ sound.types.requests (here s sound v takes.source))
 
-    done-by : (P : Request → Type 0) → (So (eqb (kind_of s.shape v) 0 && was.line) → P (raised s.clock was)) →
+    done_by : (P : Request → Type 0) → (So (eqb (kind_of s.shape v) 0 && was.line) → P (raised s.clock was)) →
         (So (eqb (kind_of s.shape v) 2 && ltb 0 was.extra) → P (raised s.clock (edge_taken was))) →
         ((eqb (kind_of s.shape v) 0 && was.line) ≡ false → (eqb (kind_of s.shape v) 2 && ltb 0 was.extra) ≡ false → P (idled was)) →
         P done
     unfolding completed
-    done-by P level more none = subst P (sym done-is)
+    done_by P level more none = subst P (sym done_is)
         (cond_elim P (eqb (kind_of s.shape v) 0 && was.line) level
         (λ e. cond_elim P (eqb (kind_of s.shape v) 2 && ltb 0 was.extra) more (none e)))
 
-    again-level : So (eqb (kind_of s.shape v) 0 && was.line) → Again (kind_of s.shape v) was
-    again-level t = inl (eqb-true _ 0 (and_left _ was.line t), and_right (eqb (kind_of s.shape v) 0) _ t)
+    again_level : So (eqb (kind_of s.shape v) 0 && was.line) → Again (kind_of s.shape v) was
+    again_level t = inl (eqb-true _ 0 (and_left _ was.line t), and_right (eqb (kind_of s.shape v) 0) _ t)
 
-    again-more : So (eqb (kind_of s.shape v) 2 && ltb 0 was.extra) → Again (kind_of s.shape v) was
-    again-more t = inr (eqb-true _ 2 (and_left _ (ltb 0 was.extra) t), ltb-true 0 was.extra (and_right (eqb (kind_of s.shape v) 2) _ t))
+    again_more : So (eqb (kind_of s.shape v) 2 && ltb 0 was.extra) → Again (kind_of s.shape v) was
+    again_more t = inr (eqb-true _ 2 (and_left _ (ltb 0 was.extra) t), ltb-true 0 was.extra (and_right (eqb (kind_of s.shape v) 2) _ t))
 
     -- "Taking effect, the source is idle; then .."
-    pub completed-idle : (Again (kind_of s.shape v) was → ⊥) → So (is_idle done)
-    completed-idle not = done-by (λ r. So (is_idle r)) (λ t. absurd (not (again-level t))) (λ t. absurd (not (again-more t))) (λ _ _. unfold idled is_idle in refl)
+    pub completed_idle : (Again (kind_of s.shape v) was → ⊥) → So (is_idle done)
+    completed_idle not = done_by (λ r. So (is_idle r)) (λ t. absurd (not (again_level t))) (λ t. absurd (not (again_more t))) (λ _ _. unfold idled is_idle in refl)
 
     -- ".. a level source with high line, or a counting source with extra edges .., is pending again in the same step."
-    pub completed-again : Again (kind_of s.shape v) was → PendingFrom s.clock done
-    completed-again again = done-by (PendingFrom s.clock) (λ _. from was) (λ _. from (edge_taken was))
+    pub completed_again : Again (kind_of s.shape v) was → PendingFrom s.clock done
+    completed_again again = done_by (PendingFrom s.clock) (λ _. from was) (λ _. from (edge_taken was))
         (λ high more. absurd (⊎_elim
         (λ (a : (kind_of s.shape v ≡ 0) × So was.line). not_so high (and_intro (eq-eqb _ 0 a.0) a.1))
         (λ a. not_so more (and_intro (eq-eqb _ 2 a.0) (lt-ltb 0 was.extra a.1)))
@@ -205,9 +205,9 @@ module _ (s : State) (sound : Sound s) (c v : ℕ) where
         from r = raised_from s sound v takes.source r
 
     -- "(one fewer afterwards)"
-    pub completed-fewer : kind_of s.shape v ≡ 2 → done.extra ≡ was.extra - 1
+    pub completed_fewer : kind_of s.shape v ≡ 2 → done.extra ≡ was.extra - 1
     unfolding raised edge_taken idled
-    completed-fewer two = done-by (λ r. r.extra ≡ was.extra - 1)
+    completed_fewer two = done_by (λ r. r.extra ≡ was.extra - 1)
         (λ t. absurd (omega (arith, two, eqb-true (kind_of s.shape v) 0 (and_left _ was.line t))))
         (λ _. refl)
         (λ _ more. omega (arith, none more))
@@ -227,7 +227,7 @@ module _ (s : State) (sound : Sound s) (c v : ℕ) where
         (λ t. absurd (stays out (ap (λ (k : State). request k.requests i) (completion_ignored s c v (λ f. not_so t ((takes_effect_iff s c v).1 f))))))
         (dichotomy (takes_effect s c v))),
     (λ f. subst (λ (k : ℕ). is_in_service (request (after_write s (Claim c) v).requests k) ≡ false) f.0
-        (done-by f.1 (λ r. is_in_service r ≡ false) (λ _. unfold raised is_in_service in refl) (λ _. unfold raised is_in_service in refl)
+        (done_by f.1 (λ r. is_in_service r ≡ false) (λ _. unfold raised is_in_service in refl) (λ _. unfold raised is_in_service in refl)
         (λ _ _. unfold idled is_in_service in refl))),
   )
     where

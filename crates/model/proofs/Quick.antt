@@ -18,7 +18,7 @@ use Rattle.model.specs.Registers.{priority_at, pending_at, enable_at, page_at, d
 use Rattle.model.specs.Calls.{Call, is_step, no_step_left, offset_above, offset_unaligned, no_such_source, no_such_context, clock_past, per_mille_outside, nothing_to_divide, grounds, values_of, effect, after, respond, bad_shape, make}
 use Rattle.model.specs.Run.{Past, run, bit_of, bits_set, swept, at_claim, claim_event, completion_event, happened, rises, grown, noted, past, claims_in, ticks_in, ages_open}
 use Rattle.model.specs.Sound.{Sound}
-use Rattle.model.proofs.Rows.{rest, number-of-rest}
+use Rattle.model.proofs.Rows.{rest, number_of_rest}
 use Rattle.model.proofs.Runs.{run_sound}
 
 numbered : Call → State → ℕ → Outcome
@@ -45,7 +45,7 @@ quick_past s (a ∷ earlier) = noted (quick_past s earlier) a (quick_run s earli
 
 pub quick_is : (s : State) → Sound s → (a : Call) → respond a s ≡ quick a s
 unfolding respond quick numbered
-quick_is s f a = ap (numbered a s) (number-of-rest s f a)
+quick_is s f a = ap (numbered a s) (number_of_rest s f a)
 
 module _ (s : State) (f : Sound s) where
   pub run_quick : (calls : List Call) → run s calls ≡ quick_run s calls

@@ -130,17 +130,17 @@ module _ (n m off : ℕ) where
 
   module _ (limits : Wide n m) (aligned : off % 4 ≡ 0) where
     -- each register of the map is met by exactly its offset
-    pub decode-iff : (r : Register) → r ≢ Nothing → (decode n m off ≡ r) ↔ StandsAt n m off r
+    pub decode_iff : (r : Register) → r ≢ Nothing → (decode n m off ≡ r) ↔ StandsAt n m off r
     unfolding Decoded
-    decode-iff r ne = (
+    decode_iff r ne = (
       (λ e. ⊎_elim (λ n. absurd (ne (sym e ∙ n))) (λ t. subst (StandsAt n m off) e t) (decoded aligned)),
       stands_decodes limits r,
     )
 
     -- and every other aligned offset by none
-    pub decode-nothing : (decode n m off ≡ Nothing) ↔ ((r : Register) → StandsAt n m off r → ⊥)
+    pub decode_nothing : (decode n m off ≡ Nothing) ↔ ((r : Register) → StandsAt n m off r → ⊥)
     unfolding Decoded
-    decode-nothing = (
+    decode_nothing = (
       (λ e r t. subst (StandsAt n m off) (sym (stands_decodes limits r t) ∙ e) t),
       (λ none. ⊎_elim (λ n. n) (λ t. absurd (none (decode n m off) t)) (decoded aligned)),
     )

@@ -83,68 +83,68 @@ module _ (s : State) where
 
   module _ (f : Sound s) where
     -- on a sound state the other rows decide
-    pub number-of-rest : (a : Call) → first_of (grounds a s) ≡ first_of (rest (grounds a s))
+    pub number_of_rest : (a : Call) → first_of (grounds a s) ≡ first_of (rest (grounds a s))
     unfolding not_sound
-    number-of-rest a = ap first_of (grounds_are a) ∙ first_miss (not_sound s) (rest (grounds a s)) (ap not (sound_test s f))
+    number_of_rest a = ap first_of (grounds_are a) ∙ first_miss (not_sound s) (rest (grounds a s)) (ap not (sound_test s f))
 
     -- a row that comes next
-    row-iff : (a : Call) (n : ℕ) (g : Ground) (gs : List Ground) {P : Type 0} → first_of (grounds a s) ≡ first_of (g ∷ gs) → Rising n (g ∷ gs) →
+    row_iff : (a : Call) (n : ℕ) (g : Ground) (gs : List Ground) {P : Type 0} → first_of (grounds a s) ≡ first_of (g ∷ gs) → Rising n (g ∷ gs) →
         So g.holds ↔ P → ((respond a s).number ≡ g.number) ↔ P
     unfolding respond
-    row-iff a n g gs is r holds = (
+    row_iff a n g gs is r holds = (
       (λ e. holds.0 ((hit_iff n g gs r).0 (sym is ∙ e))),
       (λ p. is ∙ (hit_iff n g gs r).1 (holds.1 p)),
     )
 
-    full-iff : So (no_step_left s).holds ↔ (4294967295 ≤ s.steps)
+    full_iff : So (no_step_left s).holds ↔ (4294967295 ≤ s.steps)
     unfolding no_step_left
-    full-iff = (leb-true 4294967295 s.steps, le-leb 4294967295 s.steps)
+    full_iff = (leb-true 4294967295 s.steps, le-leb 4294967295 s.steps)
 
     -- 3: "a step, with 4,294,967,295 steps already taken"
-    pub no-step-left-iff : (a : Call) → So (is_step a) → ((respond a s).number ≡ 3) ↔ (4294967295 ≤ s.steps)
+    pub no_step_left_iff : (a : Call) → So (is_step a) → ((respond a s).number ≡ 3) ↔ (4294967295 ≤ s.steps)
     unfolding is_step grounds not_sound no_step_left
-    no-step-left-iff (line i v) t = row-iff (line i v) 2 (no_step_left s) _ (number-of-rest (line i v)) (rising (line i v) s).1 full-iff
-    no-step-left-iff (advance n) t = row-iff (advance n) 2 (no_step_left s) _ (number-of-rest (advance n)) (rising (advance n) s).1 full-iff
-    no-step-left-iff (read off) t = row-iff (read off) 2 (no_step_left s) _ (number-of-rest (read off)) (rising (read off) s).1 full-iff
-    no-step-left-iff (write off v) t = row-iff (write off v) 2 (no_step_left s) _ (number-of-rest (write off v)) (rising (write off v) s).1 full-iff
-    no-step-left-iff (notification c) t = absurd (not_so refl t)
-    no-step-left-iff mean t = absurd (not_so refl t)
-    no-step-left-iff (by_claim p) t = absurd (not_so refl t)
-    no-step-left-iff (by_time p) t = absurd (not_so refl t)
-    no-step-left-iff totals t = absurd (not_so refl t)
+    no_step_left_iff (line i v) t = row_iff (line i v) 2 (no_step_left s) _ (number_of_rest (line i v)) (rising (line i v) s).1 full_iff
+    no_step_left_iff (advance n) t = row_iff (advance n) 2 (no_step_left s) _ (number_of_rest (advance n)) (rising (advance n) s).1 full_iff
+    no_step_left_iff (read off) t = row_iff (read off) 2 (no_step_left s) _ (number_of_rest (read off)) (rising (read off) s).1 full_iff
+    no_step_left_iff (write off v) t = row_iff (write off v) 2 (no_step_left s) _ (number_of_rest (write off v)) (rising (write off v) s).1 full_iff
+    no_step_left_iff (notification c) t = absurd (not_so refl t)
+    no_step_left_iff mean t = absurd (not_so refl t)
+    no_step_left_iff (by_claim p) t = absurd (not_so refl t)
+    no_step_left_iff (by_time p) t = absurd (not_so refl t)
+    no_step_left_iff totals t = absurd (not_so refl t)
 
     -- 7: "notification asked for a context not below C"
-    pub no-such-context-iff : (c : ℕ) → ((respond (notification c) s).number ≡ 7) ↔ (s.shape.contexts ≤ c)
+    pub no_such_context_iff : (c : ℕ) → ((respond (notification c) s).number ≡ 7) ↔ (s.shape.contexts ≤ c)
     unfolding grounds not_sound no_such_context is_context
-    no-such-context-iff c = row-iff (notification c) 2 (no_such_context s c) [] (number-of-rest (notification c)) (rising (notification c) s).1 (
+    no_such_context_iff c = row_iff (notification c) 2 (no_such_context s c) [] (number_of_rest (notification c)) (rising (notification c) s).1 (
       (λ t. ltb-false c s.shape.contexts (fails _ t)),
       (λ h. ap not (le-ltb c s.shape.contexts h)),
     )
 
-    none-iff : (n : ℕ) → So (nothing_to_divide n).holds ↔ (n ≡ 0)
+    none_iff : (n : ℕ) → So (nothing_to_divide n).holds ↔ (n ≡ 0)
     unfolding nothing_to_divide
-    none-iff n = (eqb-true n 0, eq-eqb n 0)
+    none_iff n = (eqb-true n 0, eq-eqb n 0)
 
     -- 10: "mean or percentile with nothing to divide by"
-    pub mean-of-nothing-iff : ((respond mean s).number ≡ 10) ↔ (board_claims s.counts ≡ 0)
+    pub mean_of_nothing_iff : ((respond mean s).number ≡ 10) ↔ (board_claims s.counts ≡ 0)
     unfolding grounds not_sound nothing_to_divide
-    mean-of-nothing-iff = row-iff mean 2 (nothing_to_divide (board_claims s.counts)) [] (number-of-rest mean) (rising mean s).1 (none-iff _)
+    mean_of_nothing_iff = row_iff mean 2 (nothing_to_divide (board_claims s.counts)) [] (number_of_rest mean) (rising mean s).1 (none_iff _)
 
-    rank-rows : (p : ℕ) {a : Call} {whole : ℕ} → Ranks s p a whole → first_of (grounds a s) ≡ first_of (per_mille_outside p ∷ nothing_to_divide whole ∷ [])
+    rank_rows : (p : ℕ) {a : Call} {whole : ℕ} → Ranks s p a whole → first_of (grounds a s) ≡ first_of (per_mille_outside p ∷ nothing_to_divide whole ∷ [])
     unfolding grounds
-    rank-rows p claims = number-of-rest (by_claim p)
-    rank-rows p ticks = number-of-rest (by_time p)
+    rank_rows p claims = number_of_rest (by_claim p)
+    rank_rows p ticks = number_of_rest (by_time p)
 
     module _ (p : ℕ) (a : Call) (whole : ℕ) (ranks : Ranks s p a whole) where
       -- 9: "per mille of a percentile outside 1..1000"
-      pub per-mille-outside-iff : ((respond a s).number ≡ 9) ↔ ((p ≡ 0) ⊎ (1000 < p))
+      pub per_mille_outside_iff : ((respond a s).number ≡ 9) ↔ ((p ≡ 0) ⊎ (1000 < p))
       unfolding per_mille_outside nothing_to_divide
-      per-mille-outside-iff = row-iff a 2 (per_mille_outside p) (nothing_to_divide whole ∷ []) (rank-rows p ranks) (lit< tt, (lit< tt, tt))
+      per_mille_outside_iff = row_iff a 2 (per_mille_outside p) (nothing_to_divide whole ∷ []) (rank_rows p ranks) (lit< tt, (lit< tt, tt))
           (unfold is_source in outside_iff 1000 p)
 
-      pub nothing-to-divide-iff : 1 ≤ p → p ≤ 1000 → ((respond a s).number ≡ 10) ↔ (whole ≡ 0)
+      pub nothing_to_divide_iff : 1 ≤ p → p ≤ 1000 → ((respond a s).number ≡ 10) ↔ (whole ≡ 0)
       unfolding nothing_to_divide
-      nothing-to-divide-iff low high = row-iff a 9 (nothing_to_divide whole) [] (rank-rows p ranks ∙ first_miss (per_mille_outside p) _ inside) (lit< tt, tt) (none-iff whole)
+      nothing_to_divide_iff low high = row_iff a 9 (nothing_to_divide whole) [] (rank_rows p ranks ∙ first_miss (per_mille_outside p) _ inside) (lit< tt, tt) (none_iff whole)
         where
           inside : (per_mille_outside p).holds ≡ false
           inside = unfold per_mille_outside is_source in ap not (range_source 1000 p low high)
@@ -155,31 +155,31 @@ module _ (s : State) where
       has_room = lt-leb 4294967295 s.steps room
 
       -- 6: "line change for source 0 or above N"
-      pub no-such-source-iff : (i : ℕ) (v : Bool) → ((respond (line i v) s).number ≡ 6) ↔ ((i ≡ 0) ⊎ (s.shape.sources < i))
+      pub no_such_source_iff : (i : ℕ) (v : Bool) → ((respond (line i v) s).number ≡ 6) ↔ ((i ≡ 0) ⊎ (s.shape.sources < i))
       unfolding grounds no_such_source
-      no-such-source-iff i v = row-iff (line i v) 3 (no_such_source s i) [] (number-of-rest (line i v) ∙ first_miss (no_step_left s) _ has_room) (lit< tt, tt) (outside_iff _ i)
+      no_such_source_iff i v = row_iff (line i v) 3 (no_such_source s i) [] (number_of_rest (line i v) ∙ first_miss (no_step_left s) _ has_room) (lit< tt, tt) (outside_iff _ i)
 
       -- 8: "clock advance that would pass 4,294,967,295"
-      pub clock-past-iff : (n : ℕ) → ((respond (advance n) s).number ≡ 8) ↔ (4294967295 < s.clock + n)
+      pub clock_past_iff : (n : ℕ) → ((respond (advance n) s).number ≡ 8) ↔ (4294967295 < s.clock + n)
       unfolding grounds clock_past
-      clock-past-iff n = row-iff (advance n) 3 (clock_past s n) [] (number-of-rest (advance n) ∙ first_miss (no_step_left s) _ has_room) (lit< tt, tt)
+      clock_past_iff n = row_iff (advance n) 3 (clock_past s n) [] (number_of_rest (advance n) ∙ first_miss (no_step_left s) _ has_room) (lit< tt, tt)
           (ltb-true 4294967295 (s.clock + n), lt-ltb 4294967295 (s.clock + n))
 
-      access-rows : (off : ℕ) {a : Call} → Access off a → first_of (grounds a s) ≡ first_of (offset_above off ∷ offset_unaligned off ∷ [])
+      access_rows : (off : ℕ) {a : Call} → Access off a → first_of (grounds a s) ≡ first_of (offset_above off ∷ offset_unaligned off ∷ [])
       unfolding grounds
-      access-rows off reading = number-of-rest (read off) ∙ first_miss (no_step_left s) _ has_room
-      access-rows off (writing v) = number-of-rest (write off v) ∙ first_miss (no_step_left s) _ has_room
+      access_rows off reading = number_of_rest (read off) ∙ first_miss (no_step_left s) _ has_room
+      access_rows off (writing v) = number_of_rest (write off v) ∙ first_miss (no_step_left s) _ has_room
 
       module _ (off : ℕ) (a : Call) (access : Access off a) where
         -- 4: "read or write offset above 0x3FFFFFC"
-        pub offset-above-iff : ((respond a s).number ≡ 4) ↔ (0x3FFFFFC < off)
+        pub offset_above_iff : ((respond a s).number ≡ 4) ↔ (0x3FFFFFC < off)
         unfolding offset_above offset_unaligned
-        offset-above-iff = row-iff a 3 (offset_above off) _ (access-rows off access) (lit< tt, (lit< tt, tt)) (ltb-true 0x3FFFFFC off, lt-ltb 0x3FFFFFC off)
+        offset_above_iff = row_iff a 3 (offset_above off) _ (access_rows off access) (lit< tt, (lit< tt, tt)) (ltb-true 0x3FFFFFC off, lt-ltb 0x3FFFFFC off)
 
         -- 5: "offset not a multiple of 4"
-        pub offset-unaligned-iff : off ≤ 0x3FFFFFC → ((respond a s).number ≡ 5) ↔ (off % 4 ≢ 0)
+        pub offset_unaligned_iff : off ≤ 0x3FFFFFC → ((respond a s).number ≡ 5) ↔ (off % 4 ≢ 0)
         unfolding offset_unaligned
-        offset-unaligned-iff low = row-iff a 4 (offset_unaligned off) [] (access-rows off access ∙ first_miss (offset_above off) _ (unfold offset_above in le-ltb 0x3FFFFFC off low)) (lit< tt, tt) (
+        offset_unaligned_iff low = row_iff a 4 (offset_unaligned off) [] (access_rows off access ∙ first_miss (offset_above off) _ (unfold offset_above in le-ltb 0x3FFFFFC off low)) (lit< tt, tt) (
           (λ t. eqb-false (off % 4) 0 (fails _ t)),
           (λ ne. ap not (ne_eqb (off % 4) 0 ne)),
         )

@@ -19,7 +19,7 @@ use Rattle.model.specs.Calls.{Call, make}
 use Rattle.model.specs.Run.{run, past, claims_in, ticks_in, last_is_claim, Accounted}
 use Rattle.model.proofs.Calls.{stays_sound}
 use Rattle.model.proofs.Make.{made_sound}
-use Rattle.model.proofs.Account.{Logged, respond-logged, logged_accounted}
+use Rattle.model.proofs.Account.{Logged, respond_logged, logged_accounted}
 
 -- a fresh state has nothing to account for
 fresh_logged : (h : Shape) → Logged (fresh_in h) (past (fresh_in h) [])
@@ -55,7 +55,7 @@ run_logged : (h : Shape) → Sound (fresh_in h) → (calls : List Call) → Logg
 unfolding run past
 run_logged h f [] = fresh_logged h
 run_logged h f (a ∷ earlier) =
-    respond-logged (run (fresh_in h) earlier) (past (fresh_in h) earlier) (run_logged h f earlier) (run_sound (fresh_in h) f earlier) a
+    respond_logged (run (fresh_in h) earlier) (past (fresh_in h) earlier) (run_logged h f earlier) (run_sound (fresh_in h) f earlier) a
 
 -- Demand 3: "Over any run of calls from a fresh state, .. the total equals .."
 pub accounted : (n c b : ℕ) (kinds : List ℕ) → (make n c b kinds).number ≡ 0 → (calls : List Call) →

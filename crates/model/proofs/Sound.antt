@@ -2,8 +2,8 @@
 -- Assumes nothing.
 use mathlib.Core.Path.{◌≡◌, ◌∙◌, refl, sym, ap, subst}
 use mathlib.Core.Bool.{Bool, true, false, not, ◌&&◌, ◌||◌, So}
-use mathlib.Core.Logic.{◌⊎◌, ⊎_elim, ◌↔◌}
-use Prim.Native.Nat.{ℕ, ◌+◌, ◌-◌, ◌*◌, ◌≤◌, ◌<◌}
+use mathlib.Core.Logic.{⊎_elim, ◌↔◌}
+use Prim.Native.Nat.{ℕ, ◌+◌, ◌*◌, ◌≤◌, ◌<◌}
 use lib.Dec.{ltb, eqb}
 use borrow.Author.Tests.{ltb-true, ltb-false, lt-ltb, le-ltb, leb-true, eqb-true, le-leb, eq-eqb, ne_eqb, eqb-false, not-false}
 use Rattle.limits.specs.Limits.{source_room, context_room, word_room}
@@ -16,8 +16,8 @@ use Rattle.model.specs.declared.Shape.{Shape}
 use Rattle.model.specs.declared.Settings.{Settings}
 use Rattle.model.specs.declared.State.{State}
 use Rattle.model.specs.declared.Request.{Request}
-use Rattle.model.specs.Board.{request, within_limits, is_source, kind_of, priority, threshold, enable_word}
-use Rattle.model.specs.Waits.{is_idle, bucket_claims, bucket_ticks}
+use Rattle.model.specs.Board.{request, within_limits, is_source, kind_of, enable_word}
+use Rattle.model.specs.Waits.{is_idle}
 use Rattle.model.specs.Registers.{kept}
 use Rattle.model.specs.Sound.{typed, all_zero, sound_source, sound_source_at, sound_context, sound, Typed, WithinLimits, AllZero, SoundSourceAt, SoundContext, Sound}
 

@@ -3,7 +3,7 @@
 use mathlib.Core.Path.{◌≡◌, ◌∙◌, refl, sym, subst₂}
 use mathlib.Core.Bool.{Bool, So}
 use mathlib.Core.Logic.{◌≢◌}
-use Prim.Native.Nat.{ℕ, ◌+◌, ◌-◌, ◌≤◌, ◌<◌}
+use Prim.Native.Nat.{ℕ, ◌+◌, ◌≤◌, ◌<◌}
 use native.Mathlib.Omega.{arith}
 use lib.Dec.{eqb}
 use lib.ListN.{length, get_or, length-set}
@@ -88,8 +88,8 @@ module _ (s : State) (f : Sound s) (room : s.steps < 4294967295) where
       ))
       (omega arith)
       (omega (arith, sums.0, f.claims))
-      (omega (arith, sums.0, bucket-sums.0, f.claims_booked))
-      (omega (arith, sums.1, bucket-sums.1, f.ticks_booked))
+      (omega (arith, sums.0, bucket_sums.0, f.claims_booked))
+      (omega (arith, sums.1, bucket_sums.1, f.ticks_booked))
     where
       r : Request
       r = request s.requests i
@@ -105,9 +105,9 @@ module _ (s : State) (f : Sound s) (room : s.steps < 4294967295) where
           × (board_waited (counted s.counts i w) ≡ board_waited s.counts + w)
       sums = counted_sums s.counts i w (below i source) f.types.claims f.types.waited
 
-      bucket-sums : (sum_to (bucket_claims (booked s.buckets w)) bucket_room ≡ sum_to (bucket_claims s.buckets) bucket_room + 1)
+      bucket_sums : (sum_to (bucket_claims (booked s.buckets w)) bucket_room ≡ sum_to (bucket_claims s.buckets) bucket_room + 1)
           × (sum_to (bucket_ticks (booked s.buckets w)) bucket_room ≡ sum_to (bucket_ticks s.buckets) bucket_room + w)
-      bucket-sums = booked_sums s.buckets w
+      bucket_sums = booked_sums s.buckets w
           (omega (arith, (bucket_holds w (unfold wait in omega (arith, f.types.clock))).exists)) f.types.bucket_claims f.types.bucket_ticks
 
   pub claim_step : (c : ℕ) → Sound (with_steps (claim_by s c) (s.steps + 1))

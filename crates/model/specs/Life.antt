@@ -1,6 +1,6 @@
 -- Document 01, "Life of a request".
 -- Assumes nothing.
-use Rattle.std.specs.Prelude.{◌≡◌, Bool, not, cond, ◌&&◌, ◌↔◌, ◌≢◌, [], ◌∷◌, ℕ, zero, suc, ◌+◌, ◌-◌, ◌≤◌, ◌<◌, leb, ltb, eqb}
+use Rattle.std.specs.Prelude.{◌≡◌, Bool, not, cond, ◌&&◌, ◌↔◌, ◌≢◌, [], ◌∷◌, ℕ, suc, ◌+◌, ◌-◌, ◌≤◌, ◌<◌, leb, ltb, eqb}
 use Rattle.std.proofs.Math.Bool.{So}
 use Rattle.limits.specs.Limits.{most_edges}
 use Rattle.laws.specs.Fold.{all_of, any_to, best}

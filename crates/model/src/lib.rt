@@ -1,4 +1,6 @@
 // The state of the controller, and what its calls answer. Types only: what they mean is in specs/, what is proved of that in proofs/.
+#![tactic(auto)]
+
 use limits::{BUCKET_ROOM, CONTEXT_ROOM, ENABLE_ROOM, SOURCE_ROOM};
 
 // What the board contains: N sources, C contexts, b priority bits, and a kind byte for each source

@@ -19,8 +19,8 @@ use Rattle.model.specs.declared.Refusal.{Refusal}
 use Rattle.model.specs.declared.Refusal.TheVariants as refusal
 use Rattle.model.specs.Board.{request, priority, threshold, enable_word, enabled, with_clock, with_steps}
 use Rattle.model.specs.Waits.{is_pending}
-use Rattle.model.specs.Life.{line_change, advanced, pending_for, rouses, notified}
-use Rattle.model.specs.Registers.{decode, read_of, after_read, after_write}
+use Rattle.model.specs.Life.{advanced, pending_for, rouses, notified}
+use Rattle.model.specs.Registers.{decode}
 use Rattle.model.specs.Refusals.{number_of, Ground, first_of}
 use Rattle.model.specs.Sound.{Sound}
 use Rattle.model.specs.Calls.{Call, line, advance, read, write, notification, is_step, grounds, values_of, effect, after, respond}

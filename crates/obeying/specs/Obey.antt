@@ -5,7 +5,7 @@ use Rattle.model.specs.declared.State.{State}
 use Rattle.model.specs.Refusals.{first_of}
 use Rattle.commands.specs.declared.Command.{Command}
 use Rattle.replaying.specs.declared.Said.{Said}
-use Rattle.replaying.specs.declared.Said.TheVariants.{Nothing, Value, Refused}
+use Rattle.replaying.specs.declared.Said.TheVariants.{Value, Refused}
 use Rattle.replaying.specs.Replay.{on, commanded}
 use Rattle.replaying.specs.Text.{said_bytes}
 use Rattle.leaves.specs.Leaves.{notified_in}

@@ -12,7 +12,7 @@ use Rattle.model.specs.declared.Answer.TheVariants.{Value, Refused}
 use Rattle.model.specs.declared.Answered.{Answered}
 use Rattle.model.specs.Waits.{board_claims, board_waited}
 use Rattle.model.specs.Refusals.{number_of, Outcome, answer_number, answer_values, answered, Ground, first_of}
-use Rattle.model.specs.Sound.{sound, Sound}
+use Rattle.model.specs.Sound.{sound}
 use Rattle.model.specs.Calls.{Call, line, advance, read, write, notification, mean, by_claim, by_time, totals}
 use Rattle.model.specs.Calls.{not_sound, no_step_left, offset_above, offset_unaligned, no_such_source, no_such_context, clock_past}
 use Rattle.model.specs.Calls.{per_mille_outside, nothing_to_divide, grounds, values_of, after, respond}
@@ -73,18 +73,18 @@ module _ {a : Call} {s : State} {own : List Ground} (owns : Owns a s own) where
 
   -- a call that gives one value: refused with 2, refused with another number, or accepted
   module _ (single : length (values_of a s) ≡ 1) where
-    refused-alike : (r : Refusal) (x : Answered) → first_of (grounds a s) ≡ number_of r →
+    refused_alike : (r : Refusal) (x : Answered) → first_of (grounds a s) ≡ number_of r →
         x ≡ record { answer = Refused r; state = s } → answered x ≡ respond a s
     unfolding answered answer_number answer_values
-    refused-alike r x e is = ap answered is
+    refused_alike r x e is = ap answered is
         ∙ sym (refused_as a s r e ∙ (λ i. record { number = number_of r; values = replicate (single i) 0; state = s }))
 
-    pub says-unsound : (x : Answered) → sound s ≡ false → x ≡ record { answer = Refused NotSound; state = s } → answered x ≡ respond a s
-    says-unsound x e = refused-alike NotSound x (unsound_number e)
+    pub says_unsound : (x : Answered) → sound s ≡ false → x ≡ record { answer = Refused NotSound; state = s } → answered x ≡ respond a s
+    says_unsound x e = refused_alike NotSound x (unsound_number e)
 
-    pub says-refused : (r : Refusal) (x : Answered) → So (sound s) → first_of own ≡ number_of r →
+    pub says_refused : (r : Refusal) (x : Answered) → So (sound s) → first_of own ≡ number_of r →
         x ≡ record { answer = Refused r; state = s } → answered x ≡ respond a s
-    says-refused r x t e = refused-alike r x (own_number t ∙ e)
+    says_refused r x t e = refused_alike r x (own_number t ∙ e)
 
   pub says_accepted : (o : Outcome) → So (sound s) → first_of own ≡ 0 → o ≡ record { number = 0; values = values_of a s; state = after a s } → o ≡ respond a s
   says_accepted o t e is = is ∙ sym (accepted_as a s (own_number t ∙ e))

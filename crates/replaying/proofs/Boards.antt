@@ -12,9 +12,7 @@ use lib.ListN.{drop}
 use borrow.Author.Tests.{eqb-true}
 use Rattle.laws.proofs.Truth.{dichotomy, cond_so, cond_not}
 use Rattle.model.specs.declared.State.{State}
-use Rattle.model.specs.Board.{zero_state}
-use Rattle.model.specs.Refusals.{Outcome}
-use Rattle.model.specs.Calls.{Call, line, advance, read, write, notification, respond, make}
+use Rattle.model.specs.Calls.{Call, respond}
 use Rattle.model.specs.Run.{Past, run, past, claims_in, ticks_in, every, ages_open, Accounted}
 use Rattle.model.proofs.Runs.{accounted}
 use Rattle.commands.specs.declared.Command.{Command}

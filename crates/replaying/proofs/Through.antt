@@ -54,11 +54,11 @@ pub one_end : (p : Stand) (b input : List ℕ) → line_length input < length in
 one_end p b input h told e =
     ap (fed_all (begun_at p b)) (sym (take-append-drop (suc (line_length input)) input))
     ∙ fed_apart (begun_at p b) (take (suc (line_length input)) input) (drop (suc (line_length input)) input)
-    ∙ ap (λ (r : Replay). fed_all r (drop (suc (line_length input)) input)) (fed_line (begun_at p b) input h ∙ ended-line)
+    ∙ ap (λ (r : Replay). fed_all r (drop (suc (line_length input)) input)) (fed_line (begun_at p b) input h ∙ ended_line)
     ∙ printed_apart (drop (suc (line_length input)) input) told.prints (begun_at told.stand [])
   where
-    ended-line : line_ends (record { stand = p; begun = b ++ take (line_length input) input; printed = [] }) ≡ after told.prints (begun_at told.stand [])
-    ended-line = unfold line_ends in λ i. record { stand = (e i).stand; begun = []; printed = (ap (λ (k : Told). k.prints) e ∙ sym (append-nil told.prints)) i }
+    ended_line : line_ends (record { stand = p; begun = b ++ take (line_length input) input; printed = [] }) ≡ after told.prints (begun_at told.stand [])
+    ended_line = unfold line_ends in λ i. record { stand = (e i).stand; begun = []; printed = (ap (λ (k : Told). k.prints) e ∙ sym (append-nil told.prints)) i }
 
 -- after the end
 pub ended_stays : (r : Replay) (xs : List ℕ) → r.stand ≡ ended → ((fed_all r xs).stand ≡ ended) × ((fed_all r xs).printed ≡ r.printed)

@@ -1,5 +1,7 @@
 // Document 01's section "Replay": what a script prints, defined byte by byte in specs/, and here the text of a line of it, put into
 // lent bytes. What a command does is decided above.
+#![tactic(auto)]
+
 mod lines;
 mod text;
 

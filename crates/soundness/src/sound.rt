@@ -209,7 +209,8 @@ fn ticks_come_to(ticks: &[u64; BUCKET_ROOM], total: u64) -> bool
     let mut left = total;
     let mut k: usize = 0;
     while k < BUCKET_ROOM {
-        if left < ticks[k] {
+        let short = left < ticks[k];
+        if short {
             return false;
         }
         left -= ticks[k];

@@ -73,9 +73,9 @@ module _ (s : State) where
       buckets = (after.booked ∙ cond_not _ _ t) i;
     }
 
-    claim-whole : with_claimed s stage start counts buckets ≡ claim_by s c
+    claim_whole : with_claimed s stage start counts buckets ≡ claim_by s c
     unfolding claim_by
-    claim-whole =
+    claim_whole =
         ⊎_elim
         (λ t. nobody t ∙ sym (cond_so s (claim_of s w) t))
         (λ t. somebody t ∙ sym (cond_not s (claim_of s w) t))
@@ -109,7 +109,7 @@ module _ (s : State) where
     read_whole (Pending w) = untouched
     read_whole (Enable c w) = untouched
     read_whole (Threshold c) = untouched
-    read_whole (Claim c) = claim-whole c (winner s c) stage start counts buckets refl
+    read_whole (Claim c) = claim_whole c (winner s c) stage start counts buckets refl
     read_whole Nothing = untouched
 
   -- a completion, and a write to any register

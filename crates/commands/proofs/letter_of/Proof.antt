@@ -8,9 +8,9 @@ use Rattle.commands.specs.Leaves.{letter_of}
 use Rattle.commands.proofs.letter_of.Statement.{statement}
 use Rattle.commands.proofs.letter_of.Tie as tie
 
-returns-then-line-gt-LINE_ROOM : tie.Need-returns-then-line-gt-LINE_ROOM
+returns-then-too_long : tie.Need-returns-then-too_long
 unfolding letter_of
-returns-then-line-gt-LINE_ROOM c = simp (lt-ltb line_room (length c.args.line.now) (omega arith))
+returns-then-too_long c = simp (lt-ltb line_room (length c.args.line.now) (omega arith))
 
 returns-then-line-lt2 : tie.Need-returns-then-line-lt2
 unfolding letter_of
@@ -40,7 +40,7 @@ pub letter_of_spec : {M : Type 1} → statement M
 letter_of_spec =
     tie.close
     (tie.spec
-    returns-then-line-gt-LINE_ROOM
+    returns-then-too_long
     returns-then-line-lt2
     bounds-line-1
     returns-then-space-ne32

@@ -7,8 +7,8 @@ use Rattle.commands.proofs.Openings.{opening_make, opening_other}
 use Rattle.commands.proofs.parse_opening.Statement.{statement}
 use Rattle.commands.proofs.parse_opening.Tie as tie
 
-letter_of-requires : tie.Need-letter_of-requires
-letter_of-requires c κs = search rules
+letter_of-opens-requires : tie.Need-letter_of-opens-requires
+letter_of-opens-requires c κs = search rules
 
 make_of-requires : tie.Need-make_of-requires
 make_of-requires c κs = search rules
@@ -16,10 +16,10 @@ make_of-requires c κs = search rules
 opening_of-requires : tie.Need-opening_of-requires
 opening_of-requires c κs = search rules
 
-returns-then-letter_of-eq80 : tie.Need-returns-then-letter_of-eq80
-returns-then-letter_of-eq80 c =
+returns-then-opens : tie.Need-returns-then-opens
+returns-then-opens c =
     let d = c.before.before.before in
-    let letter = sym d.letter_of.ensures ∙ c.if-letter_of-eq80.true in
+    let letter = sym d.letter_of-opens.ensures ∙ c.if-opens.true in
     c.opening_of.ensures
     ∙ ap opening_of c.make_of.ensures
     ∙ sym (opening_make d.args.line.now letter)
@@ -27,9 +27,9 @@ returns-then-letter_of-eq80 c =
 returns : tie.Need-returns
 returns c =
     let d = c.before in
-    sym (opening_other d.args.line.now (λ e. c.if-letter_of-eq80.false (d.letter_of.ensures ∙ e)))
+    sym (opening_other d.args.line.now (λ e. c.if-opens.false (d.letter_of-opens.ensures ∙ e)))
 
 pub parse_opening_spec : {M : Type 1} → statement M
 parse_opening_spec =
     tie.close
-    (tie.spec letter_of-requires make_of-requires opening_of-requires returns-then-letter_of-eq80 returns)
+    (tie.spec letter_of-opens-requires make_of-requires opening_of-requires returns-then-opens returns)

@@ -48,12 +48,12 @@ not_zero c =
     let a = c.args in
     level_here a.s a.line.now a.at c.if-at-line.false ∙ cond_not _ _ (ne_eqb _ _ c.if-v-eq48.false)
 
-returns-then-v-eq49 : tie.Need-returns-then-v-eq49
-returns-then-v-eq49 c = sym (not_zero c.before ∙ cond_so _ _ (eq-eqb _ _ c.if-v-eq49.true))
+returns-then-high : tie.Need-returns-then-high
+returns-then-high c = sym (not_zero c.before ∙ cond_so _ _ (eq-eqb _ _ c.if-high.true))
 
 returns : tie.Need-returns
-returns c = sym (not_zero c.before ∙ cond_not _ _ (ne_eqb _ _ c.if-v-eq49.false))
+returns c = sym (not_zero c.before ∙ cond_not _ _ (ne_eqb _ _ c.if-high.false))
 
 pub level_at_spec : {M : Type 1} → statement M
 level_at_spec =
-    tie.close (tie.spec overflow_add-at returns-then-at-line bounds-line-at returns-then-v-eq48 returns-then-v-eq49 returns)
+    tie.close (tie.spec overflow_add-at returns-then-at-line bounds-line-at returns-then-v-eq48 returns-then-high returns)

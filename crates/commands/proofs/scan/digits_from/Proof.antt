@@ -89,8 +89,8 @@ overflow_sub-v c = omega (arith, digit_bounds (byte (digit_read c.before)) (is_d
 overflow_add-v : tie.Need-overflow_add-v invariant-loop-i decreases-loop-i
 overflow_add-v c = omega arith
 
-returns-then-v-gt4294967295 : tie.Need-returns-then-v-gt4294967295 invariant-loop-i decreases-loop-i
-returns-then-v-gt4294967295 c =
+returns-then-past : tie.Need-returns-then-past invariant-loop-i decreases-loop-i
+returns-then-past c =
     let l = digit_read c.before.before in
     let past : 4294967295 < l.loop-i.v * 10 + (byte l - 48) = omega (arith, c.wide.ensures.0) in
     sym (a_digit c.before.before ∙ cond_not _ _ (lt-leb _ _ past))
@@ -138,7 +138,7 @@ digits_from_spec =
     wide-requires
     overflow_sub-v
     overflow_add-v
-    returns-then-v-gt4294967295
+    returns-then-past
     overflow_add-i
     loop-i-smaller
     loop-i-preserved

@@ -44,12 +44,12 @@ overflow_add-at c = omega arith
 ends_with-requires : tie.Need-ends_with-requires
 ends_with-requires c κs = omega arith
 
-returns-then-b-eq48 : tie.Need-returns-then-b-eq48
-returns-then-b-eq48 c =
+returns-then-zero : tie.Need-returns-then-zero
+returns-then-zero c =
     let a = c.args in
     c.ends_with.ensures
     ∙ number_zero (drop (a.at + 1) a.line.now) a.at
-    ∙ ap (λ (b : ℕ). value_of is_number decimal (b ∷ drop (a.at + 1) a.line.now) a.at) (sym c.if-b-eq48.true)
+    ∙ ap (λ (b : ℕ). value_of is_number decimal (b ∷ drop (a.at + 1) a.line.now) a.at) (sym c.if-zero.true)
     ∙ sym (first_at a.line.now a.at c.if-line-at.false)
 
 overflow_add-at-2 : tie.Need-overflow_add-at-2
@@ -74,7 +74,7 @@ returns c =
     ∙ ap (λ (x : ℕ). digits_from (x - 48) (drop (a.at + 1) a.line.now) (a.at + 1)) c.wide.ensures.0
     ∙ number_more byte (drop (a.at + 1) a.line.now) a.at
     (sym c.is_digit.ensures ∙ not-false _ c.if-not-is_digit.false-raw)
-    (ne_eqb _ _ c.if-b-eq48.false) (omega (arith, c.wide.ensures))
+    (ne_eqb _ _ c.if-zero.false) (omega (arith, c.wide.ensures))
     ∙ sym (first_at a.line.now a.at c.if-line-at.false)
 
 pub number_at_spec : {M : Type 1} → statement M
@@ -87,7 +87,7 @@ number_at_spec =
     returns-then-not-is_digit
     overflow_add-at
     ends_with-requires
-    returns-then-b-eq48
+    returns-then-zero
     overflow_add-at-2
     wide-requires
     overflow_sub-wide

@@ -23,10 +23,10 @@ came c =
     let bytes = ap (λ (h : Buffer). h.bytes) c.joined-line.ensures in
     let count = ap (λ (h : Buffer). h.count) c.joined-line.ensures in
     elim c.if-held-eq-HELD_ROOM.branch [
-      then-held-eq-HELD_ROOM w ↦
-        ended_full l c.joined-line.result.bytes c.if-held-eq-HELD_ROOM.held bytes (sym count ∙ w.if-held-eq-HELD_ROOM.true) w.held-is
-    | else-held-eq-HELD_ROOM w ↦
-        ended_part l c.joined-line.result.bytes c.if-held-eq-HELD_ROOM.held bytes (λ e. w.if-held-eq-HELD_ROOM.false (count ∙ e)) (w.held-is ∙ count)
+      | then-held-eq-HELD_ROOM w ↦
+          ended_full l c.joined-line.result.bytes c.if-held-eq-HELD_ROOM.held bytes (sym count ∙ w.if-held-eq-HELD_ROOM.true) w.held-is
+      | else-held-eq-HELD_ROOM w ↦
+          ended_part l c.joined-line.result.bytes c.if-held-eq-HELD_ROOM.held bytes (λ e. w.if-held-eq-HELD_ROOM.false (count ∙ e)) (w.held-is ∙ count)
     ]
 
 joined-line-requires : tie.Need-joined-line-requires

@@ -22,7 +22,7 @@ returns c =
     let r = c.args.replay in
     let room : length r.begun ≡ held_room = search rules in
     let long : length (take r.count r.begun) ≡ r.count =
-      length-take-le r.count r.begun (omega (arith, room, (fit_facts r c.requires.0).0)) in
+    length-take-le r.count r.begun (omega (arith, room, (fit_facts r c.requires.0).0)) in
     let f = c.feed_part-part.ensures in
     let out' = c.put_closing-2.new.output in
     let fed = fed_all (shown r) (10 ∷ []) in

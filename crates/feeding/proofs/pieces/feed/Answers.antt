@@ -3,7 +3,6 @@
 use Rattle.std.proofs.Common.{◌≡◌, ◌∙◌, List, [], ◌∷◌, ℕ, ◌≤◌, ◌/◌, length, take, sym, ap, subst, arith}
 use native.Mathlib.Nat.{zero-add, div-add-mod}
 use lib.Seq.{take_all, take-length, length-take-le}
-use borrow.Author.Tests.{not-true, not-false}
 use Rattle.laws.proofs.Truth.{cond_so, cond_not}
 use Rattle.replaying.specs.Pieces.{shown, taken_number, taken_values, printed_by, fed_of, part_of, accepted, feeding}
 use Rattle.feeding.specs.Engine.{Feeds}
@@ -24,12 +23,12 @@ returns c =
     let part = c.feed_part-part in
     -- how many bytes are taken
     let taken : (take n input ≡ part_of input a.output.now) × (n ≤ length input) × (n ≤ most) = elim c.if-input-n.branch [
-      then-input-n w ↦ (
+      | then-input-n w ↦ (
         ap (λ (k : ℕ). take k input) w.n-is ∙ take-length input ∙ sym (take_all most input (omega (arith, w.if-input-n.true))),
         omega (arith, w.n-is),
         omega (arith, w.n-is, w.if-input-n.true),
       )
-    | else-input-n w ↦ (ap (λ (k : ℕ). take k input) w.n-is, omega (arith, w.n-is, w.if-input-n.false), omega (arith, w.n-is))
+      | else-input-n w ↦ (ap (λ (k : ℕ). take k input) w.n-is, omega (arith, w.n-is, w.if-input-n.false), omega (arith, w.n-is))
     ] in
     let count : length (take n input) ≡ n = length-take-le n input taken.1 in
     let f = subst (λ (l : List ℕ). Feeds (shown a.replay) l a.output.now part.new.output 0 part.result) taken.0 part.ensures in

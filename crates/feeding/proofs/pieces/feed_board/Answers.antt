@@ -1,15 +1,14 @@
 -- `pieces::feed_board` meets its contract: no line has begun; none ends; or the line that has begun ends, and the rest follows.
 -- Assumes nothing.
-use Rattle.std.proofs.Common.{◌≡◌, ◌∙◌, List, [], ◌∷◌, ◌++◌, ℕ, ◌+◌, ◌-◌, ◌≤◌, length, take, drop, refl, sym, ap, subst, arith}
+use Rattle.std.proofs.Common.{◌≡◌, ◌∙◌, List, [], ◌∷◌, ◌++◌, ℕ, ◌+◌, ◌-◌, ◌≤◌, length, take, drop, sym, ap, arith}
 use native.Mathlib.Nat.{zero-add, min-le_left}
 use lib.ListN.{length-take}
 use lib.Seq.{length-take-le}
-use Rattle.limits.specs.Limits.{held_room}
 use Rattle.replaying.specs.Replay.{on}
-use Rattle.replaying.specs.Pieces.{line_length, line_feeds, begun_at, paused}
+use Rattle.replaying.specs.Pieces.{line_length, line_feeds, paused}
 use Rattle.replaying.proofs.Print.{written_length}
 use Rattle.replaying.proofs.Ends.{line_most, feeds_most}
-use Rattle.feeding.specs.Engine.{stand_in, Feeds}
+use Rattle.feeding.specs.Engine.{stand_in}
 use Rattle.feeding.proofs.Parts.{feeds_begun, begun_line, stand_in_line, one_feed, feeds_board}
 use Rattle.feeding.proofs.pieces.feed_board.Goals as goal
 

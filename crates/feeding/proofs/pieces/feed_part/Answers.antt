@@ -1,6 +1,6 @@
 -- `pieces::feed_part` meets its contract: a piece before the first line's end, on a board, or after the end.
 -- Assumes nothing.
-use Rattle.std.proofs.Common.{◌≡◌, ◌∙◌, List, ℕ, ◌≤◌, length, take, refl, sym, ap, subst, arith, rules}
+use Rattle.std.proofs.Common.{◌≡◌, ◌∙◌, List, ℕ, length, take, refl, sym, ap, subst, arith, rules}
 use Rattle.std.proofs.Math.Bool.{So}
 use lib.Seq.{length-take-le}
 use Rattle.limits.specs.Limits.{held_room}

@@ -53,8 +53,8 @@ loop-i-preserved c =
     let next = rouses_in_read a.n a.stage.now a.priority.now a.enable.now a.c l.i t.loop-i-test.true l.invariant.0 a.threshold in
     let idle = rouses_idle a.n a.stage.now a.priority.now a.enable.now a.c l.i t.loop-i-test.true l.invariant.0 a.threshold in
     let here : f l.i ≡ false = elim c.if-is_pending.branch [
-      then-is_pending+else-threshold-rank_of w ↦ next ∙ ap (ltb a.threshold) (sym w.rank_of.ensures) ∙ le-ltb _ _ w.if-threshold-rank_of.false
-    | else-is_pending w ↦ idle (sym c.is_pending.ensures ∙ w.if-is_pending.false)
+      | then-is_pending+else-threshold-rank_of w ↦ next ∙ ap (ltb a.threshold) (sym w.rank_of.ensures) ∙ le-ltb _ _ w.if-threshold-rank_of.false
+      | else-is_pending w ↦ idle (sym c.is_pending.ensures ∙ w.if-is_pending.false)
     ] in
     (omega arith, down_to (λ j. j ≤ a.n → f j ≡ false) l.i (λ _. here) l.invariant.1)
 

@@ -43,12 +43,12 @@ loop-i-preserved c =
     let idle = rank_idle a.n a.stage.now a.priority.now a.enable.now a.c l.i t.loop-i-test.true l.invariant.0 in
     let is = sym c.is_pending.ensures in
     let down : Down f a.n (l.i - 1) c.if-is_pending.won c.if-is_pending.high = elim c.if-is_pending.branch [
-      then-is_pending+then-rank-high w ↦
-        taken f a.n l.i l.won l.high w.rank_of-rank.result l.invariant.1 l.invariant.0 (w.rank_of-rank.ensures ∙ sym next) w.if-rank-high.true w.won-is w.high-is
-    | then-is_pending+else-rank-high w ↦
-        passed f a.n l.i l.won l.high w.rank_of-rank.result l.invariant.1 l.invariant.0 (w.rank_of-rank.ensures ∙ sym next) (below _ _ w.if-rank-high.false) w.won-is w.high-is
-    | else-is_pending w ↦
-        passed f a.n l.i l.won l.high 0 l.invariant.1 l.invariant.0 (sym (idle (is ∙ w.if-is_pending.false))) (inl refl) w.won-is w.high-is
+      | then-is_pending+then-rank-high w ↦
+          taken f a.n l.i l.won l.high w.rank_of-rank.result l.invariant.1 l.invariant.0 (w.rank_of-rank.ensures ∙ sym next) w.if-rank-high.true w.won-is w.high-is
+      | then-is_pending+else-rank-high w ↦
+          passed f a.n l.i l.won l.high w.rank_of-rank.result l.invariant.1 l.invariant.0 (w.rank_of-rank.ensures ∙ sym next) (below _ _ w.if-rank-high.false) w.won-is w.high-is
+      | else-is_pending w ↦
+          passed f a.n l.i l.won l.high 0 l.invariant.1 l.invariant.0 (sym (idle (is ∙ w.if-is_pending.false))) (inl refl) w.won-is w.high-is
     ] in
     (omega arith, down)
 

@@ -1,6 +1,6 @@
 -- `checks::access_check` meets its contract: each way out is the first ground that holds.
 -- Assumes nothing.
-use mathlib.Core.Path.{◌≡◌, ◌∙◌, sym, ap}
+use mathlib.Core.Path.{◌∙◌, sym, ap}
 use mathlib.Core.Bool.{not}
 use borrow.Author.Tests.{le-leb, lt-leb, lt-ltb, le-ltb, eq-eqb, ne_eqb}
 use Rattle.model.proofs.Calls.{first_hit, first_miss}

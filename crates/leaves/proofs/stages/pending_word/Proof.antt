@@ -4,7 +4,6 @@ use mathlib.Core.Path.{◌≡◌, ◌∙◌, refl, sym, ap, ap₂}
 use Prim.Native.Nat.{ℕ, ◌+◌, ◌-◌, ◌*◌, ◌^◌, ◌≤◌}
 use native.Mathlib.Omega.{arith}
 use mathlib.Core.Bool.{Bool}
-use mathlib.Core.Logic.{⊎_elim}
 use Rattle.laws.specs.Bits.{packed}
 use Rattle.laws.proofs.Truth.{cond_so, cond_not}
 use Rattle.laws.proofs.Bits.{packed_lt, packed_more}
@@ -66,9 +65,9 @@ loop-j-preserved c =
     let f = at c.args.stage.now (c.args.w * 32) in (
       omega arith,
       elim c.if-is_pending.branch [
-        then-is_pending w ↦ w.word-is ∙ sym (packed_more f l.j ∙ ap (λ (x : ℕ). packed f l.j + x) (cond_so _ _ (sym c.is_pending.ensures ∙ w.if-is_pending.true))
+        | then-is_pending w ↦ w.word-is ∙ sym (packed_more f l.j ∙ ap (λ (x : ℕ). packed f l.j + x) (cond_so _ _ (sym c.is_pending.ensures ∙ w.if-is_pending.true))
             ∙ sym (ap₂ ◌+◌ l.invariant.1 l.invariant.2))
-      | else-is_pending w ↦ w.word-is ∙ sym (packed_more f l.j ∙ ap (λ (x : ℕ). packed f l.j + x) (cond_not _ _ (sym c.is_pending.ensures ∙ w.if-is_pending.false))
+        | else-is_pending w ↦ w.word-is ∙ sym (packed_more f l.j ∙ ap (λ (x : ℕ). packed f l.j + x) (cond_not _ _ (sym c.is_pending.ensures ∙ w.if-is_pending.false))
             ∙ add-zero (packed f l.j) ∙ sym l.invariant.1)
       ],
       omega (arith, two_pow_more l.j),

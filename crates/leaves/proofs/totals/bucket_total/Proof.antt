@@ -1,8 +1,7 @@
 -- `totals::bucket_total` meets its contract: a summing loop.
 -- Assumes nothing.
 use borrow.Author.Rules.{rules}
-use mathlib.Core.Path.{◌∙◌}
-use Prim.Native.Nat.{ℕ, ◌-◌}
+use Prim.Native.Nat.{◌-◌}
 use native.Mathlib.Omega.{arith}
 use lib.ListN.{get_or}
 use Rattle.limits.specs.Limits.{bucket_room}

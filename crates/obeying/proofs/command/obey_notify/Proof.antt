@@ -12,7 +12,6 @@ use Rattle.replaying.specs.declared.Said.{Said}
 use Rattle.replaying.specs.declared.Said.TheVariants.{Value, Refused}
 use Rattle.leaves.specs.Checks.{check_number, context_grounds}
 use Rattle.leaves.proofs.Passed.{context_passed}
-use Rattle.obeying.specs.declared.command.Reply.{Reply}
 use Rattle.obeying.specs.Obey.{notify_said}
 use Rattle.obeying.proofs.Obeyed.{stays, goes}
 use Rattle.obeying.proofs.command.obey_notify.Statement.{statement}

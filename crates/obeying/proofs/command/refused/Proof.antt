@@ -1,8 +1,6 @@
 -- `obey::refused` meets its contract.
 -- Assumes nothing.
 use borrow.Author.Rules.{rules}
-use mathlib.Core.Path.{ap}
-use Prim.Native.Nat.{ℕ}
 use Rattle.replaying.specs.declared.Said.TheVariants.{Refused}
 use Rattle.obeying.proofs.command.refused.Statement.{statement}
 use Rattle.obeying.proofs.command.refused.Tie as tie

@@ -6,7 +6,7 @@ use mathlib.Core.Bool.{So}
 use Rattle.model.specs.Sound.{sound}
 use Rattle.model.specs.Calls.{advance, values_of}
 use Rattle.leaves.proofs.Passed.{tested_false, tested_true, found_refused, found_none, advance_passed}
-use Rattle.plic.proofs.Refusing.{advance_owns, says-unsound, says-refused, says_accepted, given_as}
+use Rattle.plic.proofs.Refusing.{advance_owns, says_unsound, says_refused, says_accepted, given_as}
 use Rattle.plic.proofs.calls.advance.Statement.{statement}
 use Rattle.plic.proofs.calls.advance.Tie as tie
 
@@ -25,7 +25,7 @@ unfolding values_of
 returns-then-not-is_sound c =
     let a = c.args in
     let unsound = tested_false c.is_sound.ensures c.if-not-is_sound.true-raw in
-    says-unsound (advance_owns a.state a.ticks) refl c.refused.result unsound c.refused.ensures
+    says_unsound (advance_owns a.state a.ticks) refl c.refused.result unsound c.refused.ensures
 
 advance_check-check-requires : tie.Need-advance_check-check-requires
 advance_check-check-requires c κs = search rules
@@ -51,7 +51,7 @@ returns-in-Refused c =
     let d = c.before.before in
     let a = d.args in
     let number = found_refused d.advance_check-check.ensures c.in-Refused.is in
-    says-refused (advance_owns a.state a.ticks) refl c.in-Refused.why c.refused-in-Refused.result (is_so d.before) number c.refused-in-Refused.ensures
+    says_refused (advance_owns a.state a.ticks) refl c.in-Refused.why c.refused-in-Refused.result (is_so d.before) number c.refused-in-Refused.ensures
 
 returns-in-Passed : tie.Need-returns-in-Passed
 unfolding values_of

@@ -6,7 +6,7 @@ use mathlib.Core.Bool.{So}
 use Rattle.model.specs.Sound.{sound}
 use Rattle.model.specs.Calls.{line, values_of}
 use Rattle.leaves.proofs.Passed.{tested_false, tested_true, found_refused, found_none, line_passed}
-use Rattle.plic.proofs.Refusing.{line_owns, says-unsound, says-refused, says_accepted, given_as, ready}
+use Rattle.plic.proofs.Refusing.{line_owns, says_unsound, says_refused, says_accepted, given_as, ready}
 use Rattle.plic.proofs.calls.line.Statement.{statement}
 use Rattle.plic.proofs.calls.line.Tie as tie
 
@@ -25,7 +25,7 @@ unfolding values_of
 returns-then-not-is_sound c =
     let a = c.args in
     let unsound = tested_false c.is_sound.ensures c.if-not-is_sound.true-raw in
-    says-unsound (line_owns a.state a.source a.level) refl c.refused.result unsound c.refused.ensures
+    says_unsound (line_owns a.state a.source a.level) refl c.refused.result unsound c.refused.ensures
 
 line_check-check-requires : tie.Need-line_check-check-requires
 line_check-check-requires c κs = search rules
@@ -53,7 +53,7 @@ returns-in-Refused c =
     let d = c.before.before in
     let a = d.args in
     let number = found_refused d.line_check-check.ensures c.in-Refused.is in
-    says-refused (line_owns a.state a.source a.level) refl c.in-Refused.why c.refused-in-Refused.result (is_so d.before) number c.refused-in-Refused.ensures
+    says_refused (line_owns a.state a.source a.level) refl c.in-Refused.why c.refused-in-Refused.result (is_so d.before) number c.refused-in-Refused.ensures
 
 returns-in-Passed : tie.Need-returns-in-Passed
 unfolding values_of

@@ -7,7 +7,7 @@ use Rattle.model.specs.Sound.{sound}
 use Rattle.model.specs.Calls.{notification, is_step, values_of, effect, after}
 use Rattle.model.proofs.Sound.{sound_facts}
 use Rattle.leaves.proofs.Passed.{tested_false, tested_true, found_refused, found_none, context_passed}
-use Rattle.plic.proofs.Refusing.{notification_owns, says-unsound, says-refused, says_accepted, given_as}
+use Rattle.plic.proofs.Refusing.{notification_owns, says_unsound, says_refused, says_accepted, given_as}
 use Rattle.plic.proofs.calls.notification.Statement.{statement}
 use Rattle.plic.proofs.calls.notification.Tie as tie
 
@@ -26,7 +26,7 @@ unfolding values_of
 returns-then-not-is_sound c =
     let a = c.args in
     let unsound = tested_false c.is_sound.ensures c.if-not-is_sound.true-raw in
-    says-unsound (notification_owns a.state a.context) refl c.refused.result unsound c.refused.ensures
+    says_unsound (notification_owns a.state a.context) refl c.refused.result unsound c.refused.ensures
 
 context_check-check-requires : tie.Need-context_check-check-requires
 context_check-check-requires c κs = search rules
@@ -56,7 +56,7 @@ returns-in-Refused c =
     let d = c.before.before in
     let a = d.args in
     let number = found_refused d.context_check-check.ensures c.in-Refused.is in
-    says-refused (notification_owns a.state a.context) refl c.in-Refused.why c.refused-in-Refused.result (is_so d.before) number c.refused-in-Refused.ensures
+    says_refused (notification_owns a.state a.context) refl c.in-Refused.why c.refused-in-Refused.result (is_so d.before) number c.refused-in-Refused.ensures
 
 returns-in-Passed : tie.Need-returns-in-Passed
 unfolding values_of after effect is_step

@@ -4,9 +4,9 @@ use borrow.Author.Rules.{rules}
 use mathlib.Core.Path.{refl}
 use mathlib.Core.Bool.{So}
 use Rattle.model.specs.Sound.{sound}
-use Rattle.model.specs.Calls.{read, values_of}
+use Rattle.model.specs.Calls.{values_of}
 use Rattle.leaves.proofs.Passed.{tested_false, tested_true, found_refused, found_none, step_passed}
-use Rattle.plic.proofs.Refusing.{read_owns, says-unsound, says-refused, says_accepted, given_as, ready}
+use Rattle.plic.proofs.Refusing.{read_owns, says_unsound, says_refused, says_accepted, ready}
 use Rattle.plic.proofs.calls.read.Statement.{statement}
 use Rattle.plic.proofs.calls.read.Tie as tie
 
@@ -25,7 +25,7 @@ unfolding values_of
 returns-then-not-is_sound c =
     let a = c.args in
     let unsound = tested_false c.is_sound.ensures c.if-not-is_sound.true-raw in
-    says-unsound (read_owns a.state a.offset) refl c.refused.result unsound c.refused.ensures
+    says_unsound (read_owns a.state a.offset) refl c.refused.result unsound c.refused.ensures
 
 access_check-check-requires : tie.Need-access_check-check-requires
 access_check-check-requires c κs = search rules
@@ -52,7 +52,7 @@ returns-in-Refused c =
     let d = c.before.before in
     let a = d.args in
     let number = found_refused d.access_check-check.ensures c.in-Refused.is in
-    says-refused (read_owns a.state a.offset) refl c.in-Refused.why c.refused-in-Refused.result (is_so d.before) number c.refused-in-Refused.ensures
+    says_refused (read_owns a.state a.offset) refl c.in-Refused.why c.refused-in-Refused.result (is_so d.before) number c.refused-in-Refused.ensures
 
 returns-in-Passed : tie.Need-returns-in-Passed
 unfolding values_of

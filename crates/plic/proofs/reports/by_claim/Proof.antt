@@ -17,7 +17,7 @@ use Rattle.model.proofs.Sound.{sound_facts}
 use Rattle.leaves.specs.Checks.{check_number, percentile_grounds}
 use Rattle.leaves.proofs.Passed.{tested_false, tested_true, found_refused, found_none, percentile_passed}
 use Rattle.steps.proofs.Bookings.{claims_fit}
-use Rattle.plic.proofs.Refusing.{claim_owns, says-unsound, says-refused, says_accepted, given_as}
+use Rattle.plic.proofs.Refusing.{claim_owns, says_unsound, says_refused, says_accepted, given_as}
 use Rattle.plic.proofs.reports.by_claim.Statement.{statement}
 use Rattle.plic.proofs.reports.by_claim.Tie as tie
 
@@ -45,7 +45,7 @@ unfolding values_of
 returns-then-not-is_sound c =
     let a = c.args in
     let unsound = tested_false c.is_sound.ensures c.if-not-is_sound.true-raw in
-    says-unsound (claim_owns a.state a.per_mille) refl c.refused.result unsound c.refused.ensures
+    says_unsound (claim_owns a.state a.per_mille) refl c.refused.result unsound c.refused.ensures
 
 source_total-claims-requires : tie.Need-source_total-claims-requires
 source_total-claims-requires c κs = search rules
@@ -88,7 +88,7 @@ returns-in-Refused c =
     let e = k.before.before.before in
     let a = e.args in
     let number = found_refused (own k) c.in-Refused.is in
-    says-refused (claim_owns a.state a.per_mille) refl c.in-Refused.why c.refused-in-Refused.result (is_so e) number c.refused-in-Refused.ensures
+    says_refused (claim_owns a.state a.per_mille) refl c.in-Refused.why c.refused-in-Refused.result (is_so e) number c.refused-in-Refused.ensures
 
 returns-in-Passed : tie.Need-returns-in-Passed
 unfolding values_of after effect is_step bucket_claims

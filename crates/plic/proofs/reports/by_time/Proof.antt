@@ -13,7 +13,7 @@ use Rattle.model.proofs.Sound.{sound_facts}
 use Rattle.leaves.specs.Checks.{check_number, percentile_grounds}
 use Rattle.leaves.proofs.Passed.{tested_false, tested_true, found_refused, found_none, percentile_passed}
 use Rattle.steps.proofs.Bookings.{waited_fit}
-use Rattle.plic.proofs.Refusing.{time_owns, says-unsound, says-refused, says_accepted, given_as}
+use Rattle.plic.proofs.Refusing.{time_owns, says_unsound, says_refused, says_accepted, given_as}
 use Rattle.plic.proofs.reports.by_time.Statement.{statement}
 use Rattle.plic.proofs.reports.by_time.Tie as tie
 
@@ -41,7 +41,7 @@ unfolding values_of
 returns-then-not-is_sound c =
     let a = c.args in
     let unsound = tested_false c.is_sound.ensures c.if-not-is_sound.true-raw in
-    says-unsound (time_owns a.state a.per_mille) refl c.refused.result unsound c.refused.ensures
+    says_unsound (time_owns a.state a.per_mille) refl c.refused.result unsound c.refused.ensures
 
 source_total-waited-requires : tie.Need-source_total-waited-requires
 source_total-waited-requires c κs = search rules
@@ -80,7 +80,7 @@ returns-in-Refused c =
     let e = k.before.before.before in
     let a = e.args in
     let number = found_refused (own k) c.in-Refused.is in
-    says-refused (time_owns a.state a.per_mille) refl c.in-Refused.why c.refused-in-Refused.result (is_so e) number c.refused-in-Refused.ensures
+    says_refused (time_owns a.state a.per_mille) refl c.in-Refused.why c.refused-in-Refused.result (is_so e) number c.refused-in-Refused.ensures
 
 returns-in-Passed : tie.Need-returns-in-Passed
 unfolding values_of after effect is_step bucket_ticks

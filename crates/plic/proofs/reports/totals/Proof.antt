@@ -1,7 +1,7 @@
 -- `reports::totals` meets its contract: refusal 2, or the clock and the three sums.
 -- Assumes nothing.
 use borrow.Author.Rules.{rules}
-use mathlib.Core.Path.{◌∙◌, sym}
+use mathlib.Core.Path.{sym}
 use mathlib.Core.Bool.{So}
 use mathlib.Core.List.{[], ◌∷◌}
 use native.Mathlib.Omega.{arith}

@@ -7,7 +7,7 @@ use mathlib.Core.Bool.{Bool, ◌&&◌, So}
 use Rattle.limits.specs.Limits.{source_room, context_room}
 use Rattle.laws.specs.Fold.{all_to}
 use Rattle.model.specs.declared.State.{State}
-use Rattle.model.specs.Board.{within_limits, kind_of, request, priority, threshold, enable_word}
+use Rattle.model.specs.Board.{kind_of, request, priority, threshold, enable_word}
 use Rattle.model.specs.Waits.{source_claims, source_waited, board_claims, board_waited, bucket_claims, bucket_ticks}
 use Rattle.model.specs.Sound.{typed, sound_source_at, sound_context}
 use Rattle.model.proofs.Sound.{typed_test, limits_facts}

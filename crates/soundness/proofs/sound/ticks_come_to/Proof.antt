@@ -39,12 +39,12 @@ offset_bounds-ticks-k c = omega arith
 bounds-ticks-k : tie.Need-bounds-ticks-k invariant-loop-k decreases-loop-k
 bounds-ticks-k c = omega arith
 
-returns-then-left-ticks : tie.Need-returns-then-left-ticks invariant-loop-k decreases-loop-k
-returns-then-left-ticks c =
+returns-then-short : tie.Need-returns-then-short invariant-loop-k decreases-loop-k
+returns-then-short c =
     let l = c.loop-k in
     let f = at c.args.ticks.now in
     let total = c.args.total in
-    let more : total < sum_to f bucket_room = omega (arith, sum_more f l.k, sum_mono f (l.k + 1) bucket_room (omega arith), c.if-left-ticks.true, l.invariant.1) in
+    let more : total < sum_to f bucket_room = omega (arith, sum_more f l.k, sum_mono f (l.k + 1) bucket_room (omega arith), c.if-short.true, l.invariant.1) in
     sym (ne_eqb total (sum_to f bucket_room) (ne_of_lt more))
 
 offset_bounds-ticks-k-in-loop-k : tie.Need-offset_bounds-ticks-k-in-loop-k invariant-loop-k decreases-loop-k
@@ -65,7 +65,7 @@ loop-k-smaller c = omega arith
 loop-k-preserved : tie.Need-loop-k-preserved invariant-loop-k decreases-loop-k
 loop-k-preserved c =
     let l = c.loop-k in
-    (omega arith, omega (arith, sum_more (λ j. get_or c.args.ticks.now j 0) l.k, c.if-left-ticks.false, l.invariant.1))
+    (omega arith, omega (arith, sum_more (λ j. get_or c.args.ticks.now j 0) l.k, c.if-short.false, l.invariant.1))
 
 returns : tie.Need-returns invariant-loop-k decreases-loop-k
 returns c =
@@ -82,7 +82,7 @@ ticks_come_to_spec =
     loop-k-init
     offset_bounds-ticks-k
     bounds-ticks-k
-    returns-then-left-ticks
+    returns-then-short
     offset_bounds-ticks-k-in-loop-k
     bounds-ticks-k-in-loop-k
     overflow_sub-left

@@ -9,7 +9,7 @@ use Rattle.limits.specs.Limits.{context_room, word_room}
 use Rattle.model.specs.declared.Counts.{Counts}
 use Rattle.model.specs.declared.Buckets.{Buckets}
 use Rattle.model.specs.declared.Register.{Register}
-use Rattle.model.specs.declared.Register.TheVariants.{Priority, Pending, Enable, Threshold, Claim, Nothing}
+use Rattle.model.specs.declared.Register.TheVariants.{Enable}
 use Rattle.leaves.specs.Leaves.{Within}
 use Rattle.steps.specs.Arrays.{counts_of, buckets_of, read_in, claimed_in, Claimed}
 use Rattle.steps.proofs.access.read.Statement.{statement}

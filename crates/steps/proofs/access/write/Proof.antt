@@ -9,7 +9,7 @@ use Rattle.limits.specs.Limits.{context_room, word_room}
 use Rattle.model.specs.declared.Settings.{Settings}
 use Rattle.model.specs.declared.Requests.{Requests}
 use Rattle.model.specs.declared.Register.{Register}
-use Rattle.model.specs.declared.Register.TheVariants.{Priority, Pending, Enable, Threshold, Claim, Nothing}
+use Rattle.model.specs.declared.Register.TheVariants.{Enable}
 use Rattle.leaves.specs.Leaves.{Within}
 use Rattle.steps.specs.Arrays.{settings_of, requests_of, settings_written, requests_written}
 use Rattle.steps.proofs.access.write.Statement.{statement}
