@@ -5,6 +5,7 @@ use probing::look::look;
 use probing::out::Out;
 use probing::text::{Text, first};
 use probing::words::{next_of, same};
+use std::io::Write;
 
 #[derive(Clone, Copy)]
 pub(crate) struct Reader {
@@ -33,7 +34,7 @@ impl Reader {
     }
 
     // The line is whole: it is obeyed, and the next one begins.
-    fn obeyed(self) -> Reader {
+    fn obeyed<W: Write>(self, to: &mut W) -> Reader {
         let state = self.state;
         let out = self.out;
         let bytes = self.line.bytes;
@@ -42,7 +43,7 @@ impl Reader {
             return Reader {
                 state: state,
                 line: Text::empty(),
-                out: look(state, out),
+                out: look(to, state, out),
             };
         }
         let reply = obey(state, line);
@@ -51,19 +52,19 @@ impl Reader {
         Reader {
             state: next,
             line: Text::empty(),
-            out: out.line(text),
+            out: out.line(to, text),
         }
     }
 
     // A block of the input is read: each line feed in it ends a line.
-    pub(crate) fn taken(self, block: &[u8]) -> Reader {
+    pub(crate) fn taken<W: Write>(self, to: &mut W, block: &[u8]) -> Reader {
         let mut reader = self;
         let mut from = 0;
         while from < block.len() {
             let end = next_of(block, from, b'\n');
             reader = reader.read(&block[from..end]);
             if end < block.len() {
-                reader = reader.obeyed();
+                reader = reader.obeyed(to);
             }
             from = end + 1;
         }
@@ -71,12 +72,12 @@ impl Reader {
     }
 
     // The input has ended: a last line may lack its line feed.
-    pub(crate) fn ended(self) {
+    pub(crate) fn ended<W: Write>(self, to: &mut W) {
         if 0 < self.line.length {
-            let last = self.obeyed();
-            last.out.flushed();
+            let last = self.obeyed(to);
+            last.out.flushed(to);
         } else {
-            self.out.flushed();
+            self.out.flushed(to);
         }
     }
 

@@ -95,18 +95,16 @@ fn is_named(field: Field, word: &[u8]) -> bool {
 }
 
 pub fn field_named(word: &[u8]) -> Named {
-    let mut k = 0;
-    while k < FIELDS {
+    for k in 0..FIELDS {
         let field = field_at(k);
         if is_named(field, word) {
             return Named::Is(field);
         }
-        k += 1;
     }
     Named::Nothing
 }
 
-// The last index of a field. The bound is for the loop over the indices.
+// The last index of a field, below the rooms of sources and of enables together.
 pub fn last_index(field: Field) -> u64
     ensures { result < source_room + enable_room }
 {

@@ -15,10 +15,8 @@ fn kind_of(letter: u8) -> u8 {
 // The kinds that the letters l, e, c from a place to the end of the line stand for.
 pub fn of_letters(line: &[u8], from: usize) -> Text {
     let mut kinds = Text::empty();
-    let mut i = from;
-    while i < line.len() {
+    for i in from..line.len() {
         kinds = kinds.with(&[kind_of(line[i])]);
-        i += 1;
     }
     kinds
 }

@@ -1,6 +1,6 @@
 // The output: kept back until there may be no room for the next line, so that few lines cost a call of the system.
 use crate::text::{Text, append, first};
-use libc::STDOUT_FILENO;
+use std::io::Write;
 
 const ROOM: usize = 4096;
 
@@ -24,12 +24,12 @@ impl Out {
     }
 
     // What was kept back is written. After a write that failed the output is closed, and nothing more is written.
-    pub fn flushed(self) -> Out {
+    pub fn flushed<W: Write>(self, to: &mut W) -> Out {
         if !self.is_open {
             return self;
         }
         let bytes = self.bytes;
-        let is_written = io::write_all(STDOUT_FILENO, first(&bytes, self.used));
+        let is_written = to.write_all(first(&bytes, self.used)).is_ok();
         Out {
             bytes: bytes,
             used: 0,
@@ -37,15 +37,15 @@ impl Out {
         }
     }
 
-    fn with_room(self) -> Out {
+    fn with_room<W: Write>(self, to: &mut W) -> Out {
         if self.used <= FULL {
             return self;
         }
-        self.flushed()
+        self.flushed(to)
     }
 
-    pub fn line(self, text: Text) -> Out {
-        let ready = self.with_room();
+    pub fn line<W: Write>(self, to: &mut W, text: Text) -> Out {
+        let ready = self.with_room(to);
         let mut bytes = ready.bytes;
         let part = text.bytes;
         let used = append(&mut bytes, ready.used, first(&part, text.length));

@@ -1,4 +1,5 @@
 // Bytes by value, as many as are held of a line: a line that is read, a line to write, a list of kind bytes.
+use itoa::Buffer;
 
 #[derive(Clone, Copy)]
 pub struct Text {
@@ -9,14 +10,12 @@ pub struct Text {
 // Copies as much of a part as there is room for to the place `at`, and gives the place after it.
 pub fn append(to: &mut [u8], at: usize, part: &[u8]) -> usize {
     let mut end = at;
-    let mut i = 0;
-    while i < part.len() {
+    for byte in part {
         if to.len() <= end {
             return end;
         }
-        to[end] = part[i];
+        to[end] = *byte;
         end += 1;
-        i += 1;
     }
     end
 }
@@ -51,8 +50,7 @@ impl Text {
     }
 
     pub fn number(self, n: u64) -> Text {
-        let mut digits = [0u8; 20];
-        let k = io::decimal(n, &mut digits);
-        self.with(&digits[..k])
+        let mut digits = Buffer::new();
+        self.with(digits.format(n).as_bytes())
     }
 }

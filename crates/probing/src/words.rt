@@ -17,12 +17,10 @@ pub enum Value {
 pub fn next_of(bytes: &[u8], from: usize, b: u8) -> usize
     ensures { (result ≤ length bytes.now) × (from ≤ result + (from - length bytes.now)) }
 {
-    let mut i = from;
-    while i < bytes.len() {
+    for i in from..bytes.len() {
         if bytes[i] == b {
             return i;
         }
-        i += 1;
     }
     bytes.len()
 }
@@ -31,12 +29,10 @@ pub fn same(a: &[u8], b: &[u8]) -> bool {
     if a.len() != b.len() {
         return false;
     }
-    let mut i = 0;
-    while i < a.len() {
+    for i in 0..a.len() {
         if a[i] != b[i] {
             return false;
         }
-        i += 1;
     }
     true
 }
@@ -73,8 +69,7 @@ pub fn number_at(line: &[u8], at: usize, limit: u64) -> Value {
         return Value::Nothing;
     }
     let mut v: u64 = 0;
-    let mut i = at;
-    while i < end {
+    for i in at..end {
         let d = digit_worth(line[i]);
         if 9 < d {
             return Value::Nothing;
@@ -86,7 +81,6 @@ pub fn number_at(line: &[u8], at: usize, limit: u64) -> Value {
             return Value::Nothing;
         }
         v = v * 10 + d;
-        i += 1;
     }
     if end == at {
         return Value::Nothing;
