@@ -30,16 +30,16 @@ packed_ext f g (suc n) h =
 -- a bit at or above m is worth a multiple of 2 ^ m
 multiple : (b : Bool) (m n : ℕ) → m ≤ n → (q : ℕ) × (cond b (2 ^ n) 0 ≡ q * 2 ^ m)
 multiple true m n h =
-    let n-is : n ≡ n - m + m = omega arith in
-    (2 ^ (n - m), ap (λ (k : ℕ). 2 ^ k) n-is ∙ pow-add 2 (n - m) m)
+    let n_is : n ≡ n - m + m = omega arith in
+    (2 ^ (n - m), ap (λ (k : ℕ). 2 ^ k) n_is ∙ pow-add 2 (n - m) m)
 multiple false m n h = (0, sym (zero-mul (2 ^ m)))
 
 -- the low bits of a packed number are packed from the low ones
 pub packed_mod : (f : ℕ → Bool) (m n : ℕ) → m ≤ n → packed f n % 2 ^ m ≡ packed f m
 unfolding packed
 packed_mod f m zero h =
-    let m-is : m ≡ 0 = omega arith in
-    subst (λ (k : ℕ). packed f 0 % 2 ^ k ≡ packed f k) (sym m-is) (mod-eq_of_lt (packed_lt f 0))
+    let m_is : m ≡ 0 = omega arith in
+    subst (λ (k : ℕ). packed f 0 % 2 ^ k ≡ packed f k) (sym m_is) (mod-eq_of_lt (packed_lt f 0))
 packed_mod f m (suc n) h = ⊎_elim
     (λ (e : m ≡ suc n). subst (λ (k : ℕ). packed f (suc n) % 2 ^ k ≡ packed f k) (sym e) (mod-eq_of_lt (packed_lt f (suc n))))
     (λ (k : m < suc n).
@@ -112,10 +112,10 @@ bits_ext a b h =
 pub bit_cut : (v m j : ℕ) → j < m → bit (v % 2 ^ m) j ≡ bit v j
 unfolding bit
 bit_cut v m j h =
-    let m-is : m ≡ m - suc j + suc j = omega arith in
+    let m_is : m ≡ m - suc j + suc j = omega arith in
     ap (λ (x : ℕ). eqb x 1)
     (bit_low (v % 2 ^ m) j
-    ∙ ap (λ (x : ℕ). x / 2 ^ j) (ap (λ (k : ℕ). v % 2 ^ k % 2 ^ suc j) m-is ∙ mod-mod-pow v (m - suc j) (suc j))
+    ∙ ap (λ (x : ℕ). x / 2 ^ j) (ap (λ (k : ℕ). v % 2 ^ k % 2 ^ suc j) m_is ∙ mod-mod-pow v (m - suc j) (suc j))
     ∙ sym (bit_low v j))
 
 -- taking the lowest bit off leaves the others

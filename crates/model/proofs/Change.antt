@@ -308,8 +308,8 @@ module _ (s : State) (f : Sound s) where
         enables = λ x j l. ⊎_elim
             (λ (t : So (eqb (d * word_room + x) (c * word_room + w))).
             let same : d * word_room + x ≡ c * word_room + w = eqb-true (d * word_room + x) (c * word_room + w) t in
-            let x-is : x ≡ w = omega arith in
-            λ set. subst (λ (y : ℕ). (j < 32) × So (is_source s.shape.sources (y * 32 + j))) (sym x-is)
+            let x_is : x ≡ w = omega arith in
+            λ set. subst (λ (y : ℕ). (j < 32) × So (is_source s.shape.sources (y * 32 + j))) (sym x_is)
             (kept_sources s.shape.sources w v j (subst (λ (y : ℕ). So (bit y j)) (new d x same) set)))
             (λ t. λ set. (f.context d h).enables x j l
             (subst (λ (y : ℕ). So (bit y j)) (old d x (eqb-false (d * word_room + x) (c * word_room + w) t)) set))

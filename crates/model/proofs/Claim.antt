@@ -70,8 +70,8 @@ module _ (s : State) (c : ℕ) where
 
   above_rank : (k : ℕ) → Best (rank s c) (suc s.shape.sources) k → (i : ℕ) → Eligible s c i → priority s.settings i ≤ rank s c k
   above_rank k b i f =
-      let in-range = source_range s.shape.sources i f.0.source in
-      omega (arith, b.highest i (omega (arith, in-range.1)), rank_of i f)
+      let in_range = source_range s.shape.sources i f.0.source in
+      omega (arith, b.highest i (omega (arith, in_range.1)), rank_of i f)
 
   best_winner : (k : ℕ) → Best (rank s c) (suc s.shape.sources) k → Winner s c k
   best_winner k b = record {

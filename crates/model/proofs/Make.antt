@@ -42,8 +42,8 @@ module _ (n c b : ℕ) (kinds : List ℕ) (limits : WithinLimits n c b) (long : 
   kind_in_range (suc i) l = ⊎_elim
       (λ (t : So (ltb i n)).
       let inside : i < length kinds = omega (arith, ltb-true i n t) in
-      let kind-is : get_or (kinds ++ replicate (last_source - length kinds) 0) i 0 ≡ get_or kinds i 0 = get_or-append kinds _ 0 i inside in (
-        omega (arith, kind-is, right i inside),
+      let kind_is : get_or (kinds ++ replicate (last_source - length kinds) 0) i 0 ≡ get_or kinds i 0 = get_or-append kinds _ 0 i inside in (
+        omega (arith, kind_is, right i inside),
         λ e. absurd (not_so e (range_source n (suc i) (omega arith) (omega (arith, ltb-true i n t)))),
       ))
       (λ t.
@@ -171,12 +171,12 @@ unfolding kinds_for
 made_sound n c b kinds e = ⊎_elim
     (λ t.
     let made = (made_when n c b kinds t).1 in
-    let kinds-right = and_right (within_limits n c b) (kinds_for n kinds) t in (
+    let kinds_right = and_right (within_limits n c b) (kinds_for n kinds) t in (
       made,
       subst Sound (sym made) (unfold h in fresh_sound n c b kinds
           (limits_facts n c b (and_left (within_limits n c b) (kinds_for n kinds) t))
-          (eqb-true (length kinds) n (and_left (eqb (length kinds) n) _ kinds-right))
-          (λ i l. leb-true (get_or kinds i 0) 2 (all_at _ (length kinds) (and_right (eqb (length kinds) n) _ kinds-right) i l))),
+          (eqb-true (length kinds) n (and_left (eqb (length kinds) n) _ kinds_right))
+          (λ i l. leb-true (get_or kinds i 0) 2 (all_at _ (length kinds) (and_right (eqb (length kinds) n) _ kinds_right) i l))),
     ))
     (λ t. absurd (omega (arith, e, (unmade_when n c b kinds t).0)))
     (dichotomy (within_limits n c b && kinds_for n kinds))

@@ -97,8 +97,8 @@ module _ (s : State) (sound : Sound s) (i : ℕ) (source : So (is_source s.shape
   -- "Otherwise kind 1 ignores it .."
   pub edge_ignored : kind_of s.shape i ≡ 1 → now.line ≡ false → is_idle now ≡ false → SameButLine now (lined true)
   edge_ignored one low busy =
-      let not-two = ne_eqb (kind_of s.shape i) 2 (λ e. omega (arith, e, one)) in
-      subst (SameButLine now) (sym (rise_is (λ e. omega (arith, e, one)) low ∙ cond_not _ _ busy ∙ cond_not _ _ not-two)) (line_alone true)
+      let not_two = ne_eqb (kind_of s.shape i) 2 (λ e. omega (arith, e, one)) in
+      subst (SameButLine now) (sym (rise_is (λ e. omega (arith, e, one)) low ∙ cond_not _ _ busy ∙ cond_not _ _ not_two)) (line_alone true)
 
   -- ".. and kind 2 adds one to its extra edges, staying at 255 once there."
   pub edge_is_counted : kind_of s.shape i ≡ 2 → now.line ≡ false → is_idle now ≡ false →

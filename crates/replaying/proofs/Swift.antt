@@ -94,8 +94,8 @@ all_swift : (bs : List ℕ) (r : Replay) → OnSound r.stand → fed_all r bs �
 unfolding fed_all swift_all
 all_swift [] r f = refl
 all_swift (b ∷ bs) r f =
-    let fed-one = fed_swift r b f in
-    all_swift bs (fed r b) fed-one.1 ∙ ap (λ (k : Replay). swift_all k bs) fed-one.0
+    let fed_one = fed_swift r b f in
+    all_swift bs (fed r b) fed_one.1 ∙ ap (λ (k : Replay). swift_all k bs) fed_one.0
 
 pub replay_swift : (input : List ℕ) → replay input ≡ finished (last_in (swift_all fresh input).begun (swift_all fresh input))
 unfolding replay fresh

@@ -87,16 +87,16 @@ slice_bounds-feed_lines-end c = search rules
 
 feed_lines-requires : tie.Need-feed_lines-requires
 feed_lines-requires c κs =
-    let at-enum-told = c.before.before.before in
-    let input = at-enum-told.args.input.now in
-    let end = at-enum-told.line_end-end.result in
+    let at_enum_told = c.before.before.before in
+    let input = at_enum_told.args.input.now in
+    let end = at_enum_told.line_end-end.result in
     let rest = take (length input - (end + 1)) (drop (end + 1) input) in (
-      made_is_sound (at-enum-told.args.begun.now ++ take at-enum-told.line_end-end.result at-enum-told.args.input.now) _ at-enum-told.open_board-made.result
-          (joined_cut _ at-enum-told.joined-line.result at-enum-told.joined-line.ensures) at-enum-told.open_board-made.ensures at-enum-told.in-Value.field-0
-          at-enum-told.in-Value.is,
+      made_is_sound (at_enum_told.args.begun.now ++ take at_enum_told.line_end-end.result at_enum_told.args.input.now) _ at_enum_told.open_board-made.result
+          (joined_cut _ at_enum_told.joined-line.result at_enum_told.joined-line.ensures) at_enum_told.open_board-made.ensures at_enum_told.in-Value.field-0
+          at_enum_told.in-Value.is,
       omega (
         arith,
-        at-enum-told.requires.1,
+        at_enum_told.requires.1,
         feeds_most rest,
         length-take (length input - (end + 1)) (drop (end + 1) input),
         min-le_left (length input - (end + 1))
@@ -121,13 +121,13 @@ shape_of-output-in-Value c = search rules
 
 returns-in-Value : tie.Need-returns-in-Value
 returns-in-Value c =
-    let at-enum-told = c.before.before.before.before.before.before in
-    let at-open-board = at-enum-told.before in
-    feeds_made at-open-board.args.begun.now at-open-board.args.input.now at-open-board.args.output.now at-open-board.line_end-end.result at-open-board.open_board-made.result
-    c.feed_lines.result at-open-board.line_end-end.ensures at-open-board.if-end-input.false c.feed_lines.new.output
-    (told_made (at-open-board.args.begun.now ++ take at-open-board.line_end-end.result at-open-board.args.input.now) _ at-open-board.open_board-made.result
-    (joined_cut _ at-open-board.joined-line.result at-open-board.joined-line.ensures) at-open-board.open_board-made.ensures at-enum-told.in-Value.field-0
-    at-enum-told.in-Value.is)
+    let at_enum_told = c.before.before.before.before.before.before in
+    let at_open_board = at_enum_told.before in
+    feeds_made at_open_board.args.begun.now at_open_board.args.input.now at_open_board.args.output.now at_open_board.line_end-end.result at_open_board.open_board-made.result
+    c.feed_lines.result at_open_board.line_end-end.ensures at_open_board.if-end-input.false c.feed_lines.new.output
+    (told_made (at_open_board.args.begun.now ++ take at_open_board.line_end-end.result at_open_board.args.input.now) _ at_open_board.open_board-made.result
+    (joined_cut _ at_open_board.joined-line.result at_open_board.joined-line.ensures) at_open_board.open_board-made.ensures at_enum_told.in-Value.field-0
+    at_enum_told.in-Value.is)
     c.feed_lines.ensures.feeds
 
 shape_of-output-in-Refused : tie.Need-shape_of-output-in-Refused
@@ -136,21 +136,21 @@ shape_of-output-in-Refused c = search rules
 returns-in-Refused : tie.Need-returns-in-Refused
 unfolding said_bytes
 returns-in-Refused c =
-    let at-put-said = c.before.before.before in
-    let at-number-of = at-put-said.before.before in
-    let at-answer = at-number-of.before in
-    let at-open-board = at-answer.before in
-    let a = at-open-board.args in
-    let why = at-answer.in-Refused.why in
-    let enough : 0 + 20 ≤ length a.output.now = omega (arith, at-open-board.requires.1, at-open-board.line_end-end.ensures, line_most at-open-board.args.input.now, at-open-board.if-end-input.false) in
-    let said = written_put 20 (said_bytes (Refused at-number-of.number_of.result)) a.output.now at-put-said.put_said.new.output 0
-    at-put-said.put_said.result enough at-put-said.put_said.ensures.0 in
-    feeds_unmade a.begun.now a.input.now a.output.now at-open-board.line_end-end.result at-open-board.open_board-made.result c.at_end.result
-    at-open-board.line_end-end.ensures at-open-board.if-end-input.false at-put-said.put_said.new.output at-put-said.put_said.result (number_of why)
-    (told_unmade (at-open-board.args.begun.now ++ take at-open-board.line_end-end.result at-open-board.args.input.now) _ at-open-board.open_board-made.result
-    (joined_cut _ at-open-board.joined-line.result at-open-board.joined-line.ensures) at-open-board.open_board-made.ensures why at-answer.in-Refused.is)
-    (subst (λ (k : ℕ). Written a.output.now at-put-said.put_said.new.output 0 at-put-said.put_said.result (refused_line k)) at-number-of.number_of.ensures said)
-    (omega (arith, at-put-said.put_said.ensures.1)) c.at_end.ensures
+    let at_put_said = c.before.before.before in
+    let at_number_of = at_put_said.before.before in
+    let at_answer = at_number_of.before in
+    let at_open_board = at_answer.before in
+    let a = at_open_board.args in
+    let why = at_answer.in-Refused.why in
+    let enough : 0 + 20 ≤ length a.output.now = omega (arith, at_open_board.requires.1, at_open_board.line_end-end.ensures, line_most at_open_board.args.input.now, at_open_board.if-end-input.false) in
+    let said = written_put 20 (said_bytes (Refused at_number_of.number_of.result)) a.output.now at_put_said.put_said.new.output 0
+    at_put_said.put_said.result enough at_put_said.put_said.ensures.0 in
+    feeds_unmade a.begun.now a.input.now a.output.now at_open_board.line_end-end.result at_open_board.open_board-made.result c.at_end.result
+    at_open_board.line_end-end.ensures at_open_board.if-end-input.false at_put_said.put_said.new.output at_put_said.put_said.result (number_of why)
+    (told_unmade (at_open_board.args.begun.now ++ take at_open_board.line_end-end.result at_open_board.args.input.now) _ at_open_board.open_board-made.result
+    (joined_cut _ at_open_board.joined-line.result at_open_board.joined-line.ensures) at_open_board.open_board-made.ensures why at_answer.in-Refused.is)
+    (subst (λ (k : ℕ). Written a.output.now at_put_said.put_said.new.output 0 at_put_said.put_said.result (refused_line k)) at_number_of.number_of.ensures said)
+    (omega (arith, at_put_said.put_said.ensures.1)) c.at_end.ensures
 
 pub feed_first_spec : {M : Type 1} → statement M
 feed_first_spec =

@@ -63,8 +63,8 @@ unfolding notify_said
 returns-else-is_notified c =
     let t = c.before.before.before.before in
     let a = t.args in
-    let not-notified = sym {A = ℕ} (cond_not 1 0 (sym c.is_notified.ensures ∙ c.if-is_notified.false)) in
-    ap (λ (k : Said). record { clock = a.clock; steps = a.steps; said = k }) (ap (Value 78) not-notified ∙ goes _ _ (none t))
+    let not_notified = sym {A = ℕ} (cond_not 1 0 (sym c.is_notified.ensures ∙ c.if-is_notified.false)) in
+    ap (λ (k : Said). record { clock = a.clock; steps = a.steps; said = k }) (ap (Value 78) not_notified ∙ goes _ _ (none t))
 
 pub obey_notify_spec : {M : Type 1} → statement M
 obey_notify_spec =

@@ -16,16 +16,16 @@ entry c = c.before.before.before.before.before
 abbrev word : tie.After-put_digits-end → tie.After-put_text-from
 word c = c.before.before.before.before.before
 
-abbrev refusedWord : List ℕ
-refusedWord = 114 ∷ 101 ∷ 102 ∷ 117 ∷ 115 ∷ 101 ∷ 100 ∷ 32 ∷ []
+abbrev refused_word : List ℕ
+refused_word = 114 ∷ 101 ∷ 102 ∷ 117 ∷ 115 ∷ 101 ∷ 100 ∷ 32 ∷ []
 
 -- what stands in the output after the word, and after the number
 word_put : (c : tie.After-put_text-from) →
-    Reaching (entry c).args.output.now c.put_text-from.new.output (entry c).args.at c.put_text-from.result 8 refusedWord
+    Reaching (entry c).args.output.now c.put_text-from.new.output (entry c).args.at c.put_text-from.result 8 refused_word
 word_put c = reaches 8 (omega arith) c.put_text-from.ensures
 
 number_put : (c : tie.After-put_digits-end) → let s = entry (word c) in
-    Reaching s.args.output.now c.put_digits-end.new.output s.args.at c.put_digits-end.result 18 (refusedWord ++ digits s.args.number)
+    Reaching s.args.output.now c.put_digits-end.new.output s.args.at c.put_digits-end.result 18 (refused_word ++ digits s.args.number)
 number_put c = reaching_then (word_put (word c)) (narrow_reaches c.wide.ensures c.put_digits-end.ensures)
 
 put_text-from-requires : tie.Need-put_text-from-requires

@@ -27,29 +27,29 @@ abbrev last : tie.After-slice_known-5-1 → tie.After-put_total-end
 last c = c.before.before
 
 -- the words, each with its number, and the line
-abbrev clockWord : List ℕ
-clockWord = 99 ∷ 108 ∷ 111 ∷ 99 ∷ 107 ∷ 32 ∷ []
+abbrev clock_word : List ℕ
+clock_word = 99 ∷ 108 ∷ 111 ∷ 99 ∷ 107 ∷ 32 ∷ []
 
-abbrev claimsWord : List ℕ
-claimsWord = 32 ∷ 99 ∷ 108 ∷ 97 ∷ 105 ∷ 109 ∷ 115 ∷ 32 ∷ []
+abbrev claims_word : List ℕ
+claims_word = 32 ∷ 99 ∷ 108 ∷ 97 ∷ 105 ∷ 109 ∷ 115 ∷ 32 ∷ []
 
-abbrev waitedWord : List ℕ
-waitedWord = 32 ∷ 119 ∷ 97 ∷ 105 ∷ 116 ∷ 101 ∷ 100 ∷ 32 ∷ []
+abbrev waited_word : List ℕ
+waited_word = 32 ∷ 119 ∷ 97 ∷ 105 ∷ 116 ∷ 101 ∷ 100 ∷ 32 ∷ []
 
-abbrev openWord : List ℕ
-openWord = 32 ∷ 111 ∷ 112 ∷ 101 ∷ 110 ∷ 32 ∷ []
+abbrev open_word : List ℕ
+open_word = 32 ∷ 111 ∷ 112 ∷ 101 ∷ 110 ∷ 32 ∷ []
 
-abbrev clockPart : tie.Start → List ℕ
-clockPart s = clockWord ++ digits s.args.clock
+abbrev clock_part : tie.Start → List ℕ
+clock_part s = clock_word ++ digits s.args.clock
 
-abbrev claimsPart : tie.Start → List ℕ
-claimsPart s = claimsWord ++ digits s.args.claims
+abbrev claims_part : tie.Start → List ℕ
+claims_part s = claims_word ++ digits s.args.claims
 
-abbrev waitedPart : tie.Start → List ℕ
-waitedPart s = waitedWord ++ digits s.args.waited
+abbrev waited_part : tie.Start → List ℕ
+waited_part s = waited_word ++ digits s.args.waited
 
-abbrev openPart : tie.Start → List ℕ
-openPart s = openWord ++ digits s.args.ages
+abbrev open_part : tie.Start → List ℕ
+open_part s = open_word ++ digits s.args.ages
 
 abbrev line : tie.Start → List ℕ
 line s = totals_line (s.args.clock ∷ s.args.claims ∷ s.args.waited ∷ s.args.ages ∷ [])
@@ -62,20 +62,20 @@ bracketed a b c d e = simp append_assoc
 abbrev PutBy : tie.Start → List ℕ → ℕ → ℕ → List ℕ → Type 0
 PutBy s out end most text = Reaching s.args.output.now out s.args.at end most text
 
-clock_put : (c : tie.After-put_total-first) → PutBy (entry c) c.put_total-first.new.output c.put_total-first.result 26 (clockPart (entry c))
-clock_put c = word_reaches clockWord (entry c).args.clock (omega arith) c.put_total-first.ensures
+clock_put : (c : tie.After-put_total-first) → PutBy (entry c) c.put_total-first.new.output c.put_total-first.result 26 (clock_part (entry c))
+clock_put c = word_reaches clock_word (entry c).args.clock (omega arith) c.put_total-first.ensures
 
 claims_put : (c : tie.After-put_total-second) → let s = entry (first c) in
-    PutBy s c.put_total-second.new.output c.put_total-second.result 54 (clockPart s ++ claimsPart s)
-claims_put c = reaching_then (clock_put (first c)) (word_reaches claimsWord (entry (first c)).args.claims (omega arith) c.put_total-second.ensures)
+    PutBy s c.put_total-second.new.output c.put_total-second.result 54 (clock_part s ++ claims_part s)
+claims_put c = reaching_then (clock_put (first c)) (word_reaches claims_word (entry (first c)).args.claims (omega arith) c.put_total-second.ensures)
 
 waited_put : (c : tie.After-put_total-third) → let s = entry (first (second c)) in
-    PutBy s c.put_total-third.new.output c.put_total-third.result 82 ((clockPart s ++ claimsPart s) ++ waitedPart s)
-waited_put c = reaching_then (claims_put (second c)) (word_reaches waitedWord (entry (first (second c))).args.waited (omega arith) c.put_total-third.ensures)
+    PutBy s c.put_total-third.new.output c.put_total-third.result 82 ((clock_part s ++ claims_part s) ++ waited_part s)
+waited_put c = reaching_then (claims_put (second c)) (word_reaches waited_word (entry (first (second c))).args.waited (omega arith) c.put_total-third.ensures)
 
 open_put : (c : tie.After-put_total-end) → let s = entry (first (second (third c))) in
-    PutBy s c.put_total-end.new.output c.put_total-end.result 108 (((clockPart s ++ claimsPart s) ++ waitedPart s) ++ openPart s)
-open_put c = reaching_then (waited_put (third c)) (word_reaches openWord (entry (first (second (third c)))).args.ages (omega arith) c.put_total-end.ensures)
+    PutBy s c.put_total-end.new.output c.put_total-end.result 108 (((clock_part s ++ claims_part s) ++ waited_part s) ++ open_part s)
+open_put c = reaching_then (waited_put (third c)) (word_reaches open_word (entry (first (second (third c)))).args.ages (omega arith) c.put_total-end.ensures)
 
 returns-then-output-lt128 : tie.Need-returns-then-output-lt128
 returns-then-output-lt128 c =
