@@ -2,19 +2,17 @@
 -- back into the answer that it came from.
 -- Assumes nothing.
 use mathlib.Core.Path.{◌≡◌, ◌∙◌, refl, ap}
-use mathlib.Core.List.{[], ◌∷◌}
+use mathlib.Core.List.{List, [], ◌∷◌}
 use Prim.Native.Nat.{ℕ, zero, suc}
 use lib.ListN.{get_or}
+use Rattle.std.specs.Prelude.{Result, Ok, Err}
 use Rattle.laws.proofs.Once.{once}
 use Rattle.model.specs.declared.Refusal.{Refusal}
 use Rattle.model.specs.declared.Refusal.TheVariants.{BadShape, NotSound, NoStepLeft, OffsetAbove, OffsetUnaligned, NoSuchSource, NoSuchContext, ClockPast, PerMilleOutside, NothingToDivide, Unreadable}
-use Rattle.model.specs.declared.Answer as answers
-use Rattle.model.specs.declared.Mean as means
-use Rattle.model.specs.declared.Totals as totals
-use Rattle.model.specs.declared.Answered.{Answered}
-use Rattle.model.specs.declared.Averaged.{Averaged}
-use Rattle.model.specs.declared.Totalled.{Totalled}
-use Rattle.model.specs.Refusals.{number_of, Outcome, answer_number, answer_values, answered, mean_number, mean_values, averaged, totals_number, totals_values, totalled}
+use Rattle.model.specs.declared.State.{State}
+use Rattle.model.specs.declared.Mean.{Mean}
+use Rattle.model.specs.declared.Totals.{Totals}
+use Rattle.model.specs.Refusals.{number_of, Outcome, answer_number, answer_values, answered, mean_values, averaged, totals_values, totalled}
 
 -- the refusal of a number
 abbrev pub refusal_of : ℕ → Refusal
@@ -36,74 +34,50 @@ number_back PerMilleOutside = (8, refl, refl)
 number_back NothingToDivide = (9, refl, refl)
 number_back Unreadable = (10, refl, refl)
 
--- reading a number back: 0 is an acceptance, any other a refusal
-module _ {A : Type 0} (accepted : A) (refused : Refusal → A) where
-  unfoldable pub back : ℕ → A
-  back zero = accepted
-  back (suc k) = refused (refusal_of (suc k))
+-- an answer is read back from its number and its values: 0 is an acceptance, any other a refusal
+module _ {A : Type 0} (made : List ℕ → A) where
+  unfoldable pub back : ℕ → List ℕ → Result A Refusal
+  back zero vs = Ok (made vs)
+  back (suc k) vs = Err (refusal_of (suc k))
 
-  pub back_refused : (r : Refusal) → back (number_of r) ≡ refused r
+  pub back_refused : (r : Refusal) (vs : List ℕ) → back (number_of r) vs ≡ Err r
   unfolding back
-  back_refused r = let n = number_back r in ap back n.1 ∙ ap refused n.2
+  back_refused r vs = let n = number_back r in ap (λ (k : ℕ). back k vs) n.1 ∙ ap Err n.2
 
--- what an outcome was read from, for each kind of answer
+  -- so any two answers with one outcome are equal, and so are the states that go with them
+  module _ (values : Result A Refusal → List ℕ) (read : (v : A) → made (values (Ok v)) ≡ v) where
+    answer_back : (x : Result A Refusal) → back (answer_number x) (values x) ≡ x
+    unfolding back answer_number
+    answer_back (Ok v) = ap Ok (read v)
+    answer_back (Err r) = back_refused r (values (Err r))
 
-answer_of : Outcome → Answered
-answer_of o = record {
-  answer = back (answers.TheVariants.Value (get_or o.values 0 0)) answers.TheVariants.Refused o.number;
-  state = o.state;
-}
+    reported : Result A Refusal × State → Outcome
+    reported a = record { number = answer_number a.0; values = values a.0; state = a.1 }
 
-answer_back : (a : Answered) → answer_of (answered a) ≡ a
-unfolding answer_of answered answer_number answer_values back
-answer_back a = λ i. record { answer = same a.answer i; state = a.state }
-  where
-    same : (x : answers.Answer) →
-        back (answers.TheVariants.Value (get_or (answer_values x) 0 0)) answers.TheVariants.Refused (answer_number x) ≡ x
-    same (answers.TheVariants.Value v) = refl
-    same (answers.TheVariants.Refused r) = back_refused _ answers.TheVariants.Refused r
+    read_back : (a : Result A Refusal × State) → (back (reported a).number (reported a).values, (reported a).state) ≡ a
+    unfolding reported
+    read_back a = λ i. (answer_back a.0 i, a.1)
 
-mean_of : Outcome → Averaged
-mean_of o = record {
-  mean = back (means.TheVariants.Of (get_or o.values 0 0) (get_or o.values 1 0)) means.TheVariants.Refused o.number;
-  state = o.state;
-}
+    pub report_once : (x y : Result A Refusal) (s t : State) (o : Outcome) →
+        record { number = answer_number x; values = values x; state = s } ≡ o →
+        record { number = answer_number y; values = values y; state = t } ≡ o → (x ≡ y) × (s ≡ t)
+    unfolding reported
+    report_once x y s t o p q =
+        let e : (x, s) ≡ (y, t) = once reported (λ (z : Outcome). (back z.number z.values, z.state)) read_back o (x, s) (y, t) p q in
+        (ap (λ (a : Result A Refusal × State). a.0) e, ap (λ (a : Result A Refusal × State). a.1) e)
 
-mean_back : (a : Averaged) → mean_of (averaged a) ≡ a
-unfolding mean_of averaged mean_number mean_values back
-mean_back a = λ i. record { mean = same a.mean i; state = a.state }
-  where
-    same : (x : means.Mean) →
-        back (means.TheVariants.Of (get_or (mean_values x) 0 0) (get_or (mean_values x) 1 0)) means.TheVariants.Refused (mean_number x) ≡ x
-    same (means.TheVariants.Of ticks claims) = refl
-    same (means.TheVariants.Refused r) = back_refused _ means.TheVariants.Refused r
+pub answer_once : (o : Outcome) (x y : Result ℕ Refusal) (s t : State) → answered x s ≡ o → answered y t ≡ o → (x ≡ y) × (s ≡ t)
+unfolding answered answer_values
+answer_once o x y s t = report_once (λ vs. get_or vs 0 0) answer_values (λ v. refl) x y s t o
 
-totals_of : Outcome → Totalled
-totals_of o = record {
-  totals = back
-      (totals.TheVariants.Of (get_or o.values 0 0) (get_or o.values 1 0) (get_or o.values 2 0) (get_or o.values 3 0))
-      totals.TheVariants.Refused o.number;
-  state = o.state;
-}
+pub mean_once : (o : Outcome) (x y : Result Mean Refusal) (s t : State) → averaged x s ≡ o → averaged y t ≡ o → (x ≡ y) × (s ≡ t)
+unfolding averaged mean_values
+mean_once o x y s t =
+    report_once (λ vs. record { ticks = get_or vs 0 0; claims = get_or vs 1 0 }) mean_values (λ v. refl) x y s t o
 
-totals_back : (a : Totalled) → totals_of (totalled a) ≡ a
-unfolding totals_of totalled totals_number totals_values back
-totals_back a = λ i. record { totals = same a.totals i; state = a.state }
-  where
-    same : (x : totals.Totals) →
-        back
-        (totals.TheVariants.Of (get_or (totals_values x) 0 0) (get_or (totals_values x) 1 0) (get_or (totals_values x) 2 0) (get_or (totals_values x) 3 0))
-        totals.TheVariants.Refused (totals_number x) ≡ x
-    same (totals.TheVariants.Of clock claims waited ages) = refl
-    same (totals.TheVariants.Refused r) = back_refused _ totals.TheVariants.Refused r
-
--- any two answers with one outcome are equal
-
-pub answer_once : (o : Outcome) (x y : Answered) → answered x ≡ o → answered y ≡ o → x ≡ y
-answer_once = once answered answer_of answer_back
-
-pub mean_once : (o : Outcome) (x y : Averaged) → averaged x ≡ o → averaged y ≡ o → x ≡ y
-mean_once = once averaged mean_of mean_back
-
-pub totals_once : (o : Outcome) (x y : Totalled) → totalled x ≡ o → totalled y ≡ o → x ≡ y
-totals_once = once totalled totals_of totals_back
+pub totals_once : (o : Outcome) (x y : Result Totals Refusal) (s t : State) → totalled x s ≡ o → totalled y t ≡ o → (x ≡ y) × (s ≡ t)
+unfolding totalled totals_values
+totals_once o x y s t =
+    report_once
+    (λ vs. record { clock = get_or vs 0 0; claims = get_or vs 1 0; waited = get_or vs 2 0; ages = get_or vs 3 0 })
+    totals_values (λ v. refl) x y s t o

@@ -1,17 +1,13 @@
 -- Document 01, "Numbers of refusal": the numbers, the enums that carry them, and which of several is given.
 -- Assumes nothing.
-use Rattle.std.specs.Prelude.{◌≡◌, Bool, cond, ◌≢◌, ℕ, ◌≤◌}
+use Rattle.std.specs.Prelude.{◌≡◌, Bool, cond, ◌≢◌, ℕ, ◌≤◌, Result, Ok, Err}
 use Rattle.std.proofs.Math.Bool.{So}
 use mathlib.Core.List.{List, [], ◌∷◌, Memᴰ}
 use Rattle.model.specs.declared.State.{State}
 use Rattle.model.specs.declared.Refusal.{Refusal}
 use Rattle.model.specs.declared.Refusal.TheVariants.{BadShape, NotSound, NoStepLeft, OffsetAbove, OffsetUnaligned, NoSuchSource, NoSuchContext, ClockPast, PerMilleOutside, NothingToDivide, Unreadable}
-use Rattle.model.specs.declared.Answer as answers
-use Rattle.model.specs.declared.Mean as means
-use Rattle.model.specs.declared.Totals as totals
-use Rattle.model.specs.declared.Answered.{Answered}
-use Rattle.model.specs.declared.Averaged.{Averaged}
-use Rattle.model.specs.declared.Totalled.{Totalled}
+use Rattle.model.specs.declared.Mean.{Mean}
+use Rattle.model.specs.declared.Totals.{Totals}
 
 -- the table's numbers
 abbrev pub number_of : Refusal → ℕ
@@ -33,40 +29,32 @@ pub record Outcome : Type 0 where
   pub values : List ℕ
   pub state : State
 
--- what each answer says in these terms
+-- what each answer says in these terms, with the state after the call
 
-unfoldable pub answer_number : answers.Answer → ℕ
-answer_number (answers.TheVariants.Value v) = 0
-answer_number (answers.TheVariants.Refused r) = number_of r
+unfoldable pub answer_number : {A : Type 0} → Result A Refusal → ℕ
+answer_number (Ok v) = 0
+answer_number (Err r) = number_of r
 
-unfoldable pub answer_values : answers.Answer → List ℕ
-answer_values (answers.TheVariants.Value v) = v ∷ []
-answer_values (answers.TheVariants.Refused r) = 0 ∷ []
+unfoldable pub answer_values : Result ℕ Refusal → List ℕ
+answer_values (Ok v) = v ∷ []
+answer_values (Err r) = 0 ∷ []
 
-unfoldable pub answered : Answered → Outcome
-answered a = record { number = answer_number a.answer; values = answer_values a.answer; state = a.state }
+unfoldable pub answered : Result ℕ Refusal → State → Outcome
+answered a s = record { number = answer_number a; values = answer_values a; state = s }
 
-unfoldable pub mean_number : means.Mean → ℕ
-mean_number (means.TheVariants.Of ticks claims) = 0
-mean_number (means.TheVariants.Refused r) = number_of r
+unfoldable pub mean_values : Result Mean Refusal → List ℕ
+mean_values (Ok m) = m.ticks ∷ m.claims ∷ []
+mean_values (Err r) = 0 ∷ 0 ∷ []
 
-unfoldable pub mean_values : means.Mean → List ℕ
-mean_values (means.TheVariants.Of ticks claims) = ticks ∷ claims ∷ []
-mean_values (means.TheVariants.Refused r) = 0 ∷ 0 ∷ []
+unfoldable pub averaged : Result Mean Refusal → State → Outcome
+averaged a s = record { number = answer_number a; values = mean_values a; state = s }
 
-unfoldable pub averaged : Averaged → Outcome
-averaged a = record { number = mean_number a.mean; values = mean_values a.mean; state = a.state }
+unfoldable pub totals_values : Result Totals Refusal → List ℕ
+totals_values (Ok t) = t.clock ∷ t.claims ∷ t.waited ∷ t.ages ∷ []
+totals_values (Err r) = 0 ∷ 0 ∷ 0 ∷ 0 ∷ []
 
-unfoldable pub totals_number : totals.Totals → ℕ
-totals_number (totals.TheVariants.Of clock claims waited ages) = 0
-totals_number (totals.TheVariants.Refused r) = number_of r
-
-unfoldable pub totals_values : totals.Totals → List ℕ
-totals_values (totals.TheVariants.Of clock claims waited ages) = clock ∷ claims ∷ waited ∷ ages ∷ []
-totals_values (totals.TheVariants.Refused r) = 0 ∷ 0 ∷ 0 ∷ 0 ∷ []
-
-unfoldable pub totalled : Totalled → Outcome
-totalled a = record { number = totals_number a.totals; values = totals_values a.totals; state = a.state }
+unfoldable pub totalled : Result Totals Refusal → State → Outcome
+totalled a s = record { number = answer_number a; values = totals_values a; state = s }
 
 -- a refusal that concerns a call, and whether its case holds
 pub record Ground : Type 0 where

@@ -65,20 +65,20 @@ pub struct State {
     pub buckets: Buckets,
 }
 
-// Why a call is refused, in the order of the table's numbers 1 to 11.
-#[derive(Clone, Copy)]
+// Why a call is refused, under the table's numbers.
+#[derive(Clone, Copy, Debug, PartialEq, Eq)]
 pub enum Refusal {
-    BadShape,
-    NotSound,
-    NoStepLeft,
-    OffsetAbove,
-    OffsetUnaligned,
-    NoSuchSource,
-    NoSuchContext,
-    ClockPast,
-    PerMilleOutside,
-    NothingToDivide,
-    Unreadable,
+    BadShape = 1,
+    NotSound = 2,
+    NoStepLeft = 3,
+    OffsetAbove = 4,
+    OffsetUnaligned = 5,
+    NoSuchSource = 6,
+    NoSuchContext = 7,
+    ClockPast = 8,
+    PerMilleOutside = 9,
+    NothingToDivide = 10,
+    Unreadable = 11,
 }
 
 // A register of the map, by the number of its source, word or context.
@@ -92,42 +92,25 @@ pub enum Register {
     Nothing,
 }
 
-// What making, a step, a notification or a percentile answers.
-#[derive(Clone, Copy)]
-pub enum Answer {
-    Value(u32),
-    Refused(Refusal),
-}
-
 // What the mean report answers: ticks waited, and claims.
 #[derive(Clone, Copy)]
-pub enum Mean {
-    Of(u64, u32),
-    Refused(Refusal),
+pub struct Mean {
+    pub ticks: u64,
+    pub claims: u32,
 }
 
 // What the totals answer: clock, claims, ticks waited by claims, and ages still open.
 #[derive(Clone, Copy)]
-pub enum Totals {
-    Of(u32, u32, u64, u64),
-    Refused(Refusal),
+pub struct Totals {
+    pub clock: u32,
+    pub claims: u32,
+    pub waited: u64,
+    pub ages: u64,
 }
 
-// An answer, and the state that goes with it.
+// What making a state answers: a value or a refusal, and the state that goes with it.
 #[derive(Clone, Copy)]
 pub struct Answered {
-    pub answer: Answer,
-    pub state: State,
-}
-
-#[derive(Clone, Copy)]
-pub struct Averaged {
-    pub mean: Mean,
-    pub state: State,
-}
-
-#[derive(Clone, Copy)]
-pub struct Totalled {
-    pub totals: Totals,
+    pub answer: Result<u32, Refusal>,
     pub state: State,
 }
