@@ -6,3 +6,4 @@ pub mod Once
 pub mod Lists
 pub mod Tables
 pub mod Skips
+pub mod Ranges

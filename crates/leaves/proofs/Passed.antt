@@ -11,10 +11,9 @@ use borrow.Author.Tests.{ltb-false, leb-true, leb-false, not-true, not-false}
 use Rattle.laws.proofs.Truth.{and_right}
 use Rattle.model.specs.Board.{is_source, is_context}
 use Rattle.model.specs.declared.Refusal.{Refusal}
-use Rattle.model.specs.Refusals.{number_of, Ground, first_of}
-use Rattle.leaves.specs.declared.checks.Check.{Check}
-use Rattle.leaves.specs.declared.checks.Check.TheVariants.{Passed, Refused}
-use Rattle.leaves.specs.Checks.{check_number, step_grounds, line_grounds, advance_grounds, context_grounds, percentile_grounds}
+use Rattle.model.specs.Refusals.{number_of, answer_number, Ground, first_of}
+use Rattle.std.specs.Prelude.{Result, Ok, Err}
+use Rattle.leaves.specs.Checks.{step_grounds, line_grounds, advance_grounds, context_grounds, percentile_grounds}
 
 -- a test that the code negates, where it stops at it and where it goes on
 module _ {test is : Bool} (says : test ≡ is) where
@@ -25,12 +24,14 @@ module _ {test is : Bool} (says : test ≡ is) where
   tested_true t = sym says ∙ not-false test t
 
 -- the number of the grounds that a check looks at, by what it finds
-module _ {check : Check} {number : ℕ} (says : check_number check ≡ number) where
-  pub found_refused : {why : Refusal} → check ≡ Refused why → number ≡ number_of why
-  found_refused e = sym says ∙ ap check_number e
+module _ {check : Result (Unit {0}) Refusal} {number : ℕ} (says : answer_number check ≡ number) where
+  pub found_refused : {why : Refusal} → check ≡ Err why → number ≡ number_of why
+  unfolding answer_number
+  found_refused e = sym says ∙ ap answer_number e
 
-  pub found_none : check ≡ Passed → number ≡ 0
-  found_none e = sym says ∙ ap check_number e
+  pub found_none : {v : Unit {0}} → check ≡ Ok v → number ≡ 0
+  unfolding answer_number
+  found_none e = sym says ∙ ap answer_number e
 
 pub first_none : first_of [] ≡ 0
 unfolding first_of

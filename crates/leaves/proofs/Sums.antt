@@ -1,28 +1,17 @@
--- What a summing loop carries, over any bound: the sum of the terms passed, each of 32 bits.
+-- The sum of a list of numbers as a sum over its indices.
 -- Assumes nothing.
-use mathlib.Core.Path.{◌≡◌, ◌∙◌, refl, sym, ap, ap₂}
-use Prim.Native.Nat.{ℕ, ◌+◌, ◌*◌, ◌≤◌, ◌<◌}
-use native.Mathlib.Omega.{arith}
+use Rattle.std.proofs.Common.{◌≡◌, ◌∙◌, refl, sym, ap, ℕ, zero, suc, ◌+◌, ◌≤◌, List, length, take, get_or, sum, add-one, arith}
+use Rattle.std.proofs.lemmas.List.{take_all}
+use Rattle.std.proofs.lemmas.List.Sums.{sum_by_more}
 use Rattle.laws.specs.Fold.{sum_to}
-use Rattle.laws.proofs.Fold.{sum_more}
 
-pub record Summing (f : ℕ → ℕ) (bound i total : ℕ) : Type 0 where
-  pub within : i ≤ bound
-  pub summed : total ≡ sum_to f i
-  pub small : total ≤ i * 4294967295
+-- the first n of them
+sum_first : (xs : List ℕ) (n : ℕ) → n ≤ length xs → sum (take n xs) ≡ sum_to (λ i. get_or xs i 0) n
+unfolding sum_to
+sum_first xs zero h = refl
+sum_first xs (suc n) h =
+    ap (λ k. sum (take k xs)) (sym (add-one n)) ∙ sum_by_more (λ x. x) xs n 0 (omega arith)
+    ∙ ap (λ s. s + get_or xs n 0) (sum_first xs n (omega arith))
 
-module _ (f : ℕ → ℕ) (bound : ℕ) where
-  pub sum_begin : Summing f bound 0 0
-  sum_begin = record { within = omega arith; summed = unfold sum_to in refl; small = omega arith }
-
-  pub sum_next : {i total : ℕ} (x : ℕ) → Summing f bound i total → i < bound → x ≡ f i → x ≤ 4294967295 → Summing f bound (i + 1) (total + x)
-  sum_next {i} x s l e k = record {
-    within = omega arith;
-    summed = ap₂ ◌+◌ s.summed e ∙ sym (sum_more f i);
-    small = omega (arith, s.small);
-  }
-
-  pub sum_all : {i total : ℕ} → Summing f bound i total → bound ≤ i → total ≡ sum_to f bound
-  sum_all {i} s l =
-      let last : i ≡ bound = omega (arith, s.within) in
-      s.summed ∙ ap (sum_to f) last
+pub sum_by_index : (xs : List ℕ) (n : ℕ) → length xs ≡ n → sum xs ≡ sum_to (λ i. get_or xs i 0) n
+sum_by_index xs n e = ap sum (sym (take_all n xs (omega arith))) ∙ sum_first xs n (omega arith)

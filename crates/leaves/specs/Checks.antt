@@ -3,14 +3,7 @@
 -- Assumes nothing.
 use Rattle.std.specs.Prelude.{not, ◌&&◌, List, [], ◌∷◌, ℕ, ◌+◌, ◌%◌, leb, ltb, eqb}
 use Rattle.model.specs.Board.{is_source, is_context}
-use Rattle.model.specs.Refusals.{number_of, Ground}
-use Rattle.leaves.specs.declared.checks.Check.{Check}
-use Rattle.leaves.specs.declared.checks.Check.TheVariants.{Passed, Refused}
-
--- the number that a check comes to: 0 where the call may go on
-abbrev pub check_number : Check → ℕ
-check_number Passed = 0
-check_number (Refused why) = number_of why
+use Rattle.model.specs.Refusals.{Ground}
 
 -- the grounds of a step: 3 before its own
 abbrev pub step_grounds : ℕ → List Ground → List Ground

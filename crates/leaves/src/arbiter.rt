@@ -1,78 +1,49 @@
-// The choice of a claim's winner, and whether a context is notified. Leaves: lent arrays, no state.
-ghost use Rattle.std.specs.Prelude.{◌≡◌, cond, ◌&&◌, ℕ, ◌<◌, ◌≤◌, get_or};
+// The choice of a claim's winner, and whether a context is notified. Leaves: the state that is lent is read, and no more.
+ghost use Rattle.std.specs.Prelude.{◌≡◌, cond, ◌&&◌, ℕ, ◌<◌, ◌≤◌};
 ghost use Rattle.limits.specs.Limits.{source_room, context_room};
-ghost use Rattle.leaves.specs.Leaves.{is_pending_in, enabled_in, winner_in, notified_in};
+ghost use Rattle.model.specs.Board.{request, priority, enabled};
+ghost use Rattle.model.specs.Waits.{is_pending};
+ghost use Rattle.model.specs.Life.{winner, notified};
 
 use crate::stages::is_pending;
 use crate::words::is_enabled;
-use limits::{ENABLE_ROOM, SOURCE_ROOM};
+use model::State;
 
 // The priority of source i where it is pending and enabled in context c, and 0 where it is not.
-fn rank_of(
-    stage: &[u8; SOURCE_ROOM],
-    priority: &[u8; SOURCE_ROOM],
-    enable: &[u32; ENABLE_ROOM],
-    c: usize,
-    i: usize,
-) -> u8
+#[tactic(auto, unfolding(model::specs::Board::priority))]
+fn rank_of(state: &State, c: usize, i: usize) -> u8
     requires { (c < context_room) × (i < source_room) }
-    ensures { result ≡ cond (is_pending_in stage.now i && enabled_in enable.now c i) (get_or priority.now i 0) 0 }
+    ensures { result ≡ cond (is_pending (request state.now.requests i) && enabled state.now.settings c i) (priority state.now.settings i) 0 }
 {
-    if is_pending(stage, i) {
-        if is_enabled(enable, c, i) {
-            return priority[i];
-        }
+    if is_pending(&state.requests, i) && is_enabled(&state.settings, c, i) {
+        state.settings.priority[i]
+    } else {
+        0
     }
-    0
 }
 
 // The source that a claim by context c gives: the highest priority, then the lowest ID; 0 where nothing is eligible.
-pub fn winner(
-    stage: &[u8; SOURCE_ROOM],
-    priority: &[u8; SOURCE_ROOM],
-    enable: &[u32; ENABLE_ROOM],
-    n: usize,
-    c: usize,
-) -> usize
-    requires { (n < source_room) × (c < context_room) }
-    ensures { result ≡ winner_in n stage.now priority.now enable.now c }
+pub fn winner(state: &State, c: usize) -> usize
+    requires { (state.now.shape.sources < source_room) × (c < context_room) }
+    ensures { result ≡ winner state.now c }
 {
-    let mut won: usize = 0;
-    let mut high: u8 = 0;
-    let mut i = n;
-    while 0 < i {
-        if is_pending(stage, i) {
-            let rank = rank_of(stage, priority, enable, c, i);
-            if (0 < rank) & (high <= rank) {
-                won = i;
-                high = rank;
-            }
+    let mut won = 0;
+    let mut high = 0;
+    for i in (1..state.shape.sources as usize + 1).rev() {
+        let rank = rank_of(state, c, i);
+        if 0 < rank && high <= rank {
+            won = i;
+            high = rank;
         }
-        i -= 1;
     }
     won
 }
 
 // Whether some pending source enabled in context c has a priority above the threshold.
-pub fn is_notified<'a>(
-    stage: &'a [u8; SOURCE_ROOM],
-    priority: &'a [u8; SOURCE_ROOM],
-    enable: &'a [u32; ENABLE_ROOM],
-    threshold: u8,
-    n: usize,
-    c: usize,
-) -> bool
-    requires { (n < source_room) × (c < context_room) }
-    ensures { result ≡ notified_in n stage.now priority.now enable.now threshold c }
+pub fn is_notified(state: &State, c: usize) -> bool
+    requires { (state.now.shape.sources < source_room) × (c < context_room) }
+    ensures { result ≡ notified state.now c }
 {
-    let mut i = n;
-    while 0 < i {
-        if is_pending(stage, i) {
-            if threshold < rank_of(stage, priority, enable, c, i) {
-                return true;
-            }
-        }
-        i -= 1;
-    }
-    false
+    let threshold = state.settings.threshold[c];
+    (1..state.shape.sources as usize + 1).any(|i| threshold < rank_of(state, c, i))
 }

@@ -6,6 +6,7 @@ ghost use Rattle.leaves.specs.Leaves.{Within};
 
 use model::Register;
 
+#[tactic(auto, unfolding(model::specs::Registers::priority_at, model::specs::Board::is_source))]
 fn priority_at(n: u32, s: u32) -> Register
     ensures { result ≡ priority_at n s }
 {
@@ -16,6 +17,7 @@ fn priority_at(n: u32, s: u32) -> Register
     }
 }
 
+#[tactic(auto, unfolding(model::specs::Registers::pending_at, model::specs::Board::is_word))]
 fn pending_at(n: u32, w: u32) -> Register
     ensures { result ≡ pending_at n w }
 {
@@ -26,6 +28,7 @@ fn pending_at(n: u32, w: u32) -> Register
     }
 }
 
+#[tactic(auto, unfolding(model::specs::Registers::enable_at, model::specs::Board::is_context, model::specs::Board::is_word))]
 fn enable_at(n: u32, m: u32, c: u32, w: u32) -> Register
     ensures { result ≡ enable_at n m c w }
 {
@@ -36,6 +39,7 @@ fn enable_at(n: u32, m: u32, c: u32, w: u32) -> Register
     }
 }
 
+#[tactic(auto, unfolding(model::specs::Registers::page_at, model::specs::Board::is_context))]
 fn page_at(m: u32, c: u32, place: u32) -> Register
     ensures { result ≡ page_at m c place }
 {
@@ -49,9 +53,11 @@ fn page_at(m: u32, c: u32, place: u32) -> Register
 }
 
 // The register at an offset, for n sources and m contexts.
+#[tactic(auto, using(crate::proofs::Bounds::bounded), unfolding(model::specs::Registers::decode))]
 pub fn register_at(n: u32, m: u32, offset: u32) -> Register
     requires { m ≤ context_room }
-    ensures { (result ≡ decode n m offset) × Within n result }
+    ensures decoded { result ≡ decode n m offset }
+    ensures within { Within n result }
 {
     if offset < 0x1000 {
         return priority_at(n, offset / 4);

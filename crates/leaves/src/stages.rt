@@ -1,58 +1,67 @@
-// The stages of the sources' requests, the only place that knows how they are held: 0 idle, 1 pending, 2 in service. Leaves: the lent
-// array and numbers only.
-ghost use Rattle.std.specs.Prelude.{◌≡◌, ℕ, ◌<◌, get_or, set};
+// The requests of the sources, the only place that knows how a stage is held: 0 idle, 1 pending, 2 in service. Leaves: the requests that
+// are lent and numbers only.
+ghost use Rattle.std.specs.Prelude.{◌≡◌, ℕ, ◌+◌, ◌*◌, ◌<◌};
 ghost use Rattle.limits.specs.Limits.{source_room, word_room};
-ghost use Rattle.leaves.specs.Leaves.{is_pending_in, is_in_service_in, pending_word_in};
+ghost use Rattle.laws.specs.Bits.{packed};
+ghost use Rattle.model.specs.Board.{request, set_request};
+ghost use Rattle.model.specs.Waits.{is_pending, is_in_service};
 
-use limits::SOURCE_ROOM;
+use model::{Request, Requests};
 
 // Whether source i is pending.
-pub fn is_pending(stage: &[u8; SOURCE_ROOM], i: usize) -> bool
+#[tactic(auto, unfolding(model::specs::Waits::is_pending, model::specs::Board::request))]
+pub fn is_pending(requests: &Requests, i: usize) -> bool
     requires { i < source_room }
-    ensures { result ≡ is_pending_in stage.now i }
+    ensures { result ≡ is_pending (request requests.now i) }
 {
-    stage[i] == 1
+    requests.stage[i] == 1
 }
 
 // Whether source i is in service.
-pub fn is_in_service(stage: &[u8; SOURCE_ROOM], i: usize) -> bool
+#[tactic(auto, unfolding(model::specs::Waits::is_in_service, model::specs::Board::request))]
+pub fn is_in_service(requests: &Requests, i: usize) -> bool
     requires { i < source_room }
-    ensures { result ≡ is_in_service_in stage.now i }
+    ensures { result ≡ is_in_service (request requests.now i) }
 {
-    stage[i] == 2
+    requests.stage[i] == 2
 }
 
-// The stage of source i.
-pub fn stage_of(stage: &[u8; SOURCE_ROOM], i: usize) -> u8
+// The request of source i.
+#[tactic(auto, unfolding(model::specs::Board::request))]
+pub fn request_of(requests: &Requests, i: usize) -> Request
     requires { i < source_room }
-    ensures { result ≡ get_or stage.now i 0 }
+    ensures { result ≡ request requests.now i }
 {
-    stage[i]
+    Request {
+        stage: requests.stage[i],
+        line: requests.line[i],
+        extra: requests.extra[i],
+        start: requests.start[i],
+    }
 }
 
-// Source i goes to a stage.
-pub fn set_stage(stage: &mut [u8; SOURCE_ROOM], i: usize, to: u8)
+// The request of source i is now this one.
+#[tactic(auto, unfolding(model::specs::Board::set_request))]
+pub fn put_request(requests: &mut Requests, i: usize, r: Request)
     requires { i < source_room }
-    ensures { stage.new ≡ set stage.old i to }
+    ensures { requests.new ≡ set_request requests.old i r }
 {
-    stage[i] = to;
+    requests.stage[i] = r.stage;
+    requests.line[i] = r.line;
+    requests.extra[i] = r.extra;
+    requests.start[i] = r.start;
 }
 
 // The pending bits of the sources 32w to 32w + 31.
-pub fn pending_word(stage: &[u8; SOURCE_ROOM], w: usize) -> u32
+pub fn pending_word(requests: &Requests, w: usize) -> u32
     requires { w < word_room }
-    ensures { result ≡ pending_word_in stage.now w }
+    ensures { result ≡ packed (λ j. is_pending (request requests.now (w * 32 + j))) 32 }
 {
-    let base = w * 32;
-    let mut word: u64 = 0;
-    let mut worth: u64 = 1;
-    let mut j: usize = 0;
-    while j < 32 {
-        if is_pending(stage, base + j) {
-            word += worth;
+    let mut word = 0u32;
+    for j in 0..32 {
+        if is_pending(requests, w * 32 + j) {
+            word += 1 << j;
         }
-        worth *= 2;
-        j += 1;
     }
-    word as u32
+    word
 }

@@ -1,53 +1,29 @@
-// Sums over all sources and over all buckets, as numbers of 64 bits. Leaves: lent arrays only.
-ghost use Rattle.std.specs.Prelude.{◌≡◌, ℕ, get_or};
-ghost use Rattle.limits.specs.Limits.{source_room, bucket_room};
+// Sums over all sources and over all buckets, as numbers of 64 bits. Leaves: what is lent, no state.
+ghost use Rattle.std.specs.Prelude.{◌≡◌, ◌^◌, ◌≤◌, get_or};
 ghost use Rattle.laws.specs.Fold.{sum_to};
-ghost use Rattle.leaves.specs.Leaves.{is_pending_in, open_age_in};
+ghost use Rattle.model.specs.Waits.{board_open};
 
-use crate::stages::is_pending;
+use crate::stages::request_of;
 use crate::waits::open_age;
-use crate::words::wide;
-use limits::{BUCKET_ROOM, SOURCE_ROOM};
+use limits::SOURCE_ROOM;
+use model::Requests;
 
-// The sum over all sources.
-pub fn source_total(counts: &[u32; SOURCE_ROOM]) -> u64
-    ensures { result ≡ sum_to (λ i. get_or counts.now i 0) source_room }
+// The sum of all numbers of an array.
+pub fn total<const N: usize>(counts: &[u32; N]) -> u64
+    requires { N ≤ 2 ^ 32 }
+    ensures { result ≡ sum_to (λ i. get_or counts.now i 0) N }
 {
-    let mut total: u64 = 0;
-    let mut i: usize = 0;
-    while i < SOURCE_ROOM {
-        total += wide(counts[i]);
-        i += 1;
-    }
-    total
-}
-
-// The sum of the buckets' claims.
-pub fn bucket_total(counts: &[u32; BUCKET_ROOM]) -> u64
-    ensures { result ≡ sum_to (λ k. get_or counts.now k 0) bucket_room }
-{
-    let mut total: u64 = 0;
-    let mut k: usize = 0;
-    while k < BUCKET_ROOM {
-        total += wide(counts[k]);
-        k += 1;
-    }
-    total
+    counts.iter().map(|count| u64::from(*count)).sum()
 }
 
 // The ages still open, of all sources together.
-pub fn open_total<'a>(
-    clock: u32,
-    stage: &'a [u8; SOURCE_ROOM],
-    start: &'a [u32; SOURCE_ROOM],
-) -> u64
-    ensures { result ≡ sum_to (λ i. open_age_in clock (is_pending_in stage.now i) (get_or start.now i 0)) source_room }
+#[tactic(auto, using(laws::proofs::Fold::sum_more), unfolding(laws::specs::Fold::sum_to, model::specs::Waits::board_open))]
+pub fn open_total(clock: u32, requests: &Requests) -> u64
+    ensures { result ≡ board_open clock requests.now }
 {
-    let mut total: u64 = 0;
-    let mut i: usize = 0;
-    while i < SOURCE_ROOM {
-        total += wide(open_age(clock, is_pending(stage, i), start[i]));
-        i += 1;
+    let mut ages: u64 = 0;
+    for i in 0..SOURCE_ROOM {
+        ages += u64::from(open_age(clock, request_of(requests, i)));
     }
-    total
+    ages
 }

@@ -1,10 +1,10 @@
 // Waits, open ages and their buckets. Leaves: numbers and the table of upper ends.
 ghost use Rattle.std.specs.Prelude.{◌≡◌, ℕ, ◌<◌};
 ghost use Rattle.limits.specs.Limits.{bucket_room};
-ghost use Rattle.model.specs.Waits.{bucket_of, upper_end};
-ghost use Rattle.leaves.specs.Leaves.{open_age_in};
+ghost use Rattle.model.specs.Waits.{bucket_of, upper_end, open_age};
 
 use limits::BUCKET_ROOM;
+use model::Request;
 
 // The upper ends of the buckets: 2^k - 1 at every k.
 const UPPER_ENDS: [u32; BUCKET_ROOM] = [
@@ -14,6 +14,7 @@ const UPPER_ENDS: [u32; BUCKET_ROOM] = [
 ];
 
 // The upper end of bucket k.
+#[tactic(auto, unfolding(model::specs::Waits::upper_end, model::specs::Waits::upper_ends))]
 pub fn upper_end(k: usize) -> u32
     requires { k < bucket_room }
     ensures { result ≡ upper_end k }
@@ -29,13 +30,13 @@ pub fn bucket_of(wait: u32) -> usize
 }
 
 // The ticks from the step that set the pending bit to now, where it is set.
-pub fn open_age(clock: u32, pending: bool, start: u32) -> u32
-    ensures { result ≡ open_age_in clock pending start }
+#[tactic(auto, unfolding(model::specs::Waits::open_age, model::specs::Waits::is_pending))]
+pub fn open_age(clock: u32, r: Request) -> u32
+    ensures { result ≡ open_age clock r }
 {
-    if pending {
-        if start <= clock {
-            return clock - start;
-        }
+    if r.stage == 1 {
+        clock.saturating_sub(r.start)
+    } else {
+        0
     }
-    0
 }

@@ -3,17 +3,11 @@
 ghost use Rattle.std.specs.Prelude.{◌≡◌, ℕ, ◌+◌, ◌*◌, ◌^◌, ◌/◌, ◌%◌, ◌<◌, ◌≤◌};
 ghost use Rattle.limits.specs.Limits.{source_room, last_source, context_room, most_bits};
 ghost use Rattle.laws.specs.Bits.{bit};
+ghost use Rattle.model.specs.Board.{enabled};
 ghost use Rattle.model.specs.Registers.{kept};
-ghost use Rattle.leaves.specs.Leaves.{enabled_in};
 
-use limits::{ENABLE_ROOM, WORD_ROOM};
-
-// A number of 32 bits as one of 64.
-pub fn wide(x: u32) -> u64
-    ensures { (result ≡ x) × (result ≤ 4294967295) }
-{
-    x as u64
-}
+use limits::WORD_ROOM;
+use model::Settings;
 
 // 2 to the power j.
 pub fn power(j: u32) -> u64
@@ -24,6 +18,7 @@ pub fn power(j: u32) -> u64
 }
 
 // Bit j of a word.
+#[tactic(auto, unfolding(laws::specs::Bits::bit))]
 pub fn bit_of(word: u32, j: u32) -> bool
     requires { j < 32 }
     ensures { result ≡ bit word j }
@@ -32,11 +27,12 @@ pub fn bit_of(word: u32, j: u32) -> bool
 }
 
 // Whether source i is enabled in context c.
-pub fn is_enabled(enable: &[u32; ENABLE_ROOM], c: usize, i: usize) -> bool
+#[tactic(auto, unfolding(model::specs::Board::enabled, model::specs::Board::enable_word))]
+pub fn is_enabled(settings: &Settings, c: usize, i: usize) -> bool
     requires { (c < context_room) × (i < source_room) }
-    ensures { result ≡ enabled_in enable.now c i }
+    ensures { result ≡ enabled settings.now c i }
 {
-    let word = enable[c * WORD_ROOM + i / 32];
+    let word = settings.enable[c * WORD_ROOM + i / 32];
     bit_of(word, (i % 32) as u32)
 }
 
@@ -45,7 +41,7 @@ fn low_bits(v: u32, room: u32) -> u32
     ensures { result ≡ v % 2 ^ room }
 {
     if room < 32 {
-        ((v as u64) % power(room)) as u32
+        (u64::from(v) % power(room)) as u32
     } else {
         v
     }
@@ -65,5 +61,5 @@ pub fn reduced(v: u32, bits: u32) -> u8
     requires { bits ≤ most_bits }
     ensures { result ≡ v % 2 ^ bits }
 {
-    ((v as u64) % power(bits)) as u8
+    (u64::from(v) % power(bits)) as u8
 }

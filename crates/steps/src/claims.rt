@@ -1,63 +1,50 @@
-// A claim in the arrays that are lent: the winner goes into service, and its wait is booked.
-ghost use Rattle.std.specs.Prelude.{◌≡◌, ℕ, ◌+◌, ◌<◌, get_or};
+// A claim in the state that is lent: the winner goes into service, and its wait is booked.
+ghost use Rattle.std.specs.Prelude.{◌≡◌, ◌+◌, ◌<◌, get_or};
 ghost use Rattle.limits.specs.Limits.{source_room, context_room};
 ghost use Rattle.model.specs.Waits.{bucket_of, counted, booked};
-ghost use Rattle.leaves.specs.Leaves.{winner_in};
-ghost use Rattle.steps.specs.Arrays.{counts_of, buckets_of, Bookable, Claimed};
+ghost use Rattle.model.specs.Life.{winner, claim_by};
+ghost use Rattle.steps.specs.Arrays.{Ready};
 
 use leaves::arbiter::winner;
-use leaves::stages::set_stage;
+use leaves::stages::{put_request, request_of};
 use leaves::waits::bucket_of;
-use limits::{BUCKET_ROOM, ENABLE_ROOM, SOURCE_ROOM};
+use model::{Buckets, Counts, Request, State};
 
 // A wait of w ticks is booked with source i and with its bucket.
-fn book(
-    w: u32,
-    i: usize,
-    claims: &mut [u32; SOURCE_ROOM],
-    waited: &mut [u32; SOURCE_ROOM],
-    bucket_claims: &mut [u32; BUCKET_ROOM],
-    bucket_ticks: &mut [u64; BUCKET_ROOM],
-)
-    requires { (i < source_room) × (get_or claims.old i 0 + 1 < 4294967296) × (get_or waited.old i 0 + w < 4294967296)
-        × (get_or bucket_claims.old (bucket_of w) 0 + 1 < 4294967296) × (get_or bucket_ticks.old (bucket_of w) 0 + w < 18446744073709551616) }
-    ensures { (counts_of claims.new waited.new ≡ counted (counts_of claims.old waited.old) i w)
-        × (buckets_of bucket_claims.new bucket_ticks.new ≡ booked (buckets_of bucket_claims.old bucket_ticks.old) w) }
+#[tactic(auto, unfolding(model::specs::Waits::counted, model::specs::Waits::booked))]
+fn book(counts: &mut Counts, buckets: &mut Buckets, i: usize, w: u32)
+    requires { (i < source_room) × (get_or counts.old.claims i 0 + 1 < 4294967296) × (get_or counts.old.waited i 0 + w < 4294967296)
+        × (get_or buckets.old.claims (bucket_of w) 0 + 1 < 4294967296) × (get_or buckets.old.ticks (bucket_of w) 0 + w < 18446744073709551616) }
+    ensures counted { counts.new ≡ counted counts.old i w }
+    ensures booked { buckets.new ≡ booked buckets.old w }
 {
     let k = bucket_of(w);
-    claims[i] += 1;
-    waited[i] += w;
-    bucket_claims[k] += 1;
-    bucket_ticks[k] += w as u64;
+    counts.claims[i] += 1;
+    counts.waited[i] += w;
+    buckets.claims[k] += 1;
+    buckets.ticks[k] += u64::from(w);
 }
 
 // A claim by context c: the winner goes into service and its wait is booked; 0 where nothing is eligible.
-pub(crate) fn claim(
-    n: usize,
-    c: usize,
-    clock: u32,
-    priority: &[u8; SOURCE_ROOM],
-    enable: &[u32; ENABLE_ROOM],
-    stage: &mut [u8; SOURCE_ROOM],
-    start: &mut [u32; SOURCE_ROOM],
-    claims: &mut [u32; SOURCE_ROOM],
-    waited: &mut [u32; SOURCE_ROOM],
-    bucket_claims: &mut [u32; BUCKET_ROOM],
-    bucket_ticks: &mut [u64; BUCKET_ROOM],
-) -> usize
-    requires { (n < source_room) × (c < context_room) × Bookable clock stage.old start.old claims.old waited.old bucket_claims.old bucket_ticks.old }
-    ensures { (result ≡ winner_in n stage.old priority.now enable.now c) × (result < source_room)
-        × Claimed clock result stage.old start.old stage.new start.new
-        (counts_of claims.old waited.old) (counts_of claims.new waited.new)
-        (buckets_of bucket_claims.old bucket_ticks.old) (buckets_of bucket_claims.new bucket_ticks.new) }
+pub(crate) fn claim(state: &mut State, c: usize) -> usize
+    requires ready { Ready state.old }
+    requires context { c < context_room }
+    ensures gives { result ≡ winner state.old c }
+    ensures leaves { state.new ≡ claim_by state.old c }
+    ensures within { result < source_room }
 {
-    let w = winner(stage, priority, enable, n, c);
+    let w = winner(state, c);
     if w == 0 {
         return 0;
     }
-    let wait = clock - start[w];
-    set_stage(stage, w, 2);
-    start[w] = 0;
-    book(wait, w, claims, waited, bucket_claims, bucket_ticks);
+    let r = request_of(&state.requests, w);
+    let wait = state.clock - r.start;
+    let served = Request {
+        stage: 2,
+        start: 0,
+        ..r
+    };
+    put_request(&mut state.requests, w, served);
+    book(&mut state.counts, &mut state.buckets, w, wait);
     w
 }
