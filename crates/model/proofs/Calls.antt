@@ -41,7 +41,7 @@ module _ (s : State) where
   aligned off v e = eqb-true (off % 4) 0
       (not-false _ (none_holds (write off v) s e (offset_unaligned off) (Memᴰ.tail (Memᴰ.tail second))))
 
-  after_sound : (a : Call) → (respond a s).number ≡ 0 → Sound (after a s)
+  pub after_sound : (a : Call) → (respond a s).number ≡ 0 → Sound (after a s)
   unfolding after effect is_step grounds
   after_sound (line i v) e =
       line_step s (was_sound (line i v) s e first) (had_room (line i v) s e second) i v

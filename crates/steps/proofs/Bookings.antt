@@ -1,22 +1,23 @@
 -- What a sound state with a step left says of the arrays that a claim changes: its sums fit, whichever pending source wins.
 -- Assumes nothing.
-use mathlib.Core.Path.{◌≡◌, ◌∙◌, sym, subst}
+use mathlib.Core.Path.{◌≡◌, ◌∙◌, sym, ap, subst}
 use mathlib.Core.Bool.{So}
-use mathlib.Core.List.{List, []}
-use Prim.Native.Nat.{ℕ, ◌-◌, ◌*◌, ◌≤◌, ◌<◌}
+use Prim.Native.Nat.{ℕ, ◌+◌, ◌-◌, ◌*◌, ◌≤◌, ◌<◌}
 use native.Mathlib.Omega.{arith}
 use lib.ListN.{get_or}
 use Rattle.limits.specs.Limits.{source_room, bucket_room}
 use Rattle.laws.proofs.Truth.{cond_so}
 use Rattle.laws.proofs.Fold.{term_le_sum, sum_bound}
 use Rattle.model.specs.declared.State.{State}
-use Rattle.model.specs.Board.{request, priority, enable_word, enabled}
-use Rattle.model.specs.Waits.{is_pending, open_age, source_claims, source_waited, board_claims, board_waited, bucket_claims, bucket_ticks}
-use Rattle.model.specs.Life.{pending_for, eligible, rank, winner}
+use Rattle.model.specs.declared.Request.{Request}
+use Rattle.model.specs.Board.{request}
+use Rattle.model.specs.Waits.{is_pending, open_age, bucket_of, source_claims, source_waited, board_claims, board_waited, bucket_claims, bucket_ticks}
+use Rattle.model.specs.Life.{winner}
 use Rattle.model.specs.Sound.{Sound}
 use Rattle.model.proofs.Claim.{source_range, winner_is}
-use Rattle.leaves.specs.Leaves.{is_pending_in, enabled_in, pending_for_in, rank_in, winner_in}
-use Rattle.steps.specs.Arrays.{settings_of, requests_of, counts_of, buckets_of, state_of, Ready, Bookable}
+use Rattle.model.proofs.Waits.{leading_bucket}
+use Rattle.leaves.specs.Leaves.{is_pending_in}
+use Rattle.steps.specs.Arrays.{Ready, Bookable}
 
 -- the board's sums in a sound state fit their places
 pub claims_fit : (s : State) → Sound s → board_claims s.counts ≤ 4294967295
@@ -57,14 +58,42 @@ module _ (s : State) (ready : Ready s) where
       age i pending = unfold open_age is_pending in cond_so _ 0 pending
 
 -- a winner is a pending source
-pub winner_in_facts : (n : ℕ) (stage prio enable : List ℕ) (c w : ℕ) → w ≡ winner_in n stage prio enable c → (w ≡ 0 → ⊥) →
-    (1 ≤ w) × (w ≤ n) × So (is_pending_in stage w)
-unfolding winner_in rank_in pending_for_in enabled_in winner rank eligible pending_for is_pending request enabled enable_word priority
-winner_in_facts n stage prio enable c w e ne =
-    let s = state_of n 0 0 [] 0 0 (settings_of prio enable []) (requests_of stage [] [] []) (counts_of [] []) (buckets_of [] []) in
+pub winner_facts : (s : State) (c w : ℕ) → w ≡ winner s c → (w ≡ 0 → ⊥) →
+    (1 ≤ w) × (w ≤ s.shape.sources) × So (is_pending (request s.requests w))
+winner_facts s c w e ne =
     let won = (winner_is s c).some (λ z. ne (e ∙ z)) in
-    let range = source_range n (winner s c) won.0.source in (
+    let range = source_range s.shape.sources (winner s c) won.0.source in (
       subst (λ (k : ℕ). 1 ≤ k) (sym e) range.0,
-      subst (λ (k : ℕ). k ≤ n) (sym e) range.1,
-      subst (λ (k : ℕ). So (is_pending_in stage k)) (sym e) won.0.pending,
+      subst (λ (k : ℕ). k ≤ s.shape.sources) (sym e) range.1,
+      subst (λ (k : ℕ). So (is_pending (request s.requests k))) (sym e) won.0.pending,
     )
+
+-- .. whose wait can be booked
+pub record Booking (s : State) (w : ℕ) (r : Request) : Type 0 where
+  pub within : w < source_room
+  pub begun : r.start ≤ s.clock
+  pub fits : (w < source_room) × (get_or s.counts.claims w 0 + 1 < 4294967296) × (get_or s.counts.waited w 0 + (s.clock - r.start) < 4294967296)
+      × (get_or s.buckets.claims (bucket_of (s.clock - r.start)) 0 + 1 < 4294967296)
+      × (get_or s.buckets.ticks (bucket_of (s.clock - r.start)) 0 + (s.clock - r.start) < 18446744073709551616)
+
+pub winner_books : (s : State) → Ready s → (c w : ℕ) → w ≡ winner s c → (w ≡ 0 → ⊥) → (r : Request) → r ≡ request s.requests w → Booking s w r
+unfolding is_pending request
+winner_books s ready c w e ne r is =
+    let won = winner_facts s c w e ne in
+    let b = bookable s ready in
+    let within : w < source_room = omega (arith, won.1, ready.sound.limits.sources) in
+    let start : r.start ≡ get_or s.requests.start w 0 = ap (λ (x : Request). x.start) is in
+    let k : ℕ = bucket_of (s.clock - r.start) in
+    let leading = leading_bucket (s.clock - r.start) 32 (omega arith) (omega (arith, ready.sound.types.clock)) in
+    let small : k < bucket_room = omega (arith, leading.0, leading.1) in
+    record {
+      within = within;
+      begun = omega (arith, start, b.begun w within won.2);
+      fits = (
+        within,
+        b.claimed w within,
+        omega (arith, start, b.waiting w within won.2),
+        b.number k small,
+        omega (arith, b.total k small),
+      );
+    }

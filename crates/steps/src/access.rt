@@ -12,6 +12,7 @@ use limits::WORD_ROOM;
 use model::{Register, State};
 
 // What a read of a register gives; a read of a claim register claims.
+#[tactic(auto, unfolding(model::specs::Registers::read_of, model::specs::Registers::after_read, model::specs::Registers::pending_word, model::specs::Board::priority, model::specs::Board::enable_word, model::specs::Board::threshold))]
 pub(crate) fn read(state: &mut State, register: Register) -> u32
     requires ready { Ready state.old }
     requires within { Within state.old.shape.sources register }
@@ -29,6 +30,7 @@ pub(crate) fn read(state: &mut State, register: Register) -> u32
 }
 
 // What a write to a register does; a write to a claim register completes.
+#[tactic(auto, unfolding(model::specs::Registers::after_write, model::specs::Registers::with_priority, model::specs::Registers::with_enable, model::specs::Registers::with_threshold, model::specs::Board::with_settings))]
 pub(crate) fn write(state: &mut State, register: Register, v: u32)
     requires ready { Ready state.old }
     requires within { Within state.old.shape.sources register }

@@ -1,8 +1,10 @@
-// The steps in place: they change the arrays that are lent, and know no refusals. Each speaks of the arrays that it reads or changes;
-// proofs/Whole.antt says what that means for the state that they are part of. An inner crate: its functions ask for what a sound state
-// gives, and only crates that carry a sound state list it.
+// The steps in place: they change the state that is lent, and know no refusals; and the calls on a state that is known to be sound. An
+// inner crate: its functions ask for what a sound state gives, and only crates that carry one list it.
 #![tactic(auto)]
 
-pub mod access;
+mod access;
+mod board;
 mod claims;
-pub mod requests;
+mod requests;
+
+pub use board::Board;

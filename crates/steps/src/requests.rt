@@ -24,6 +24,7 @@ pub(crate) fn set_line(state: &mut State, i: usize, level: bool)
 }
 
 // A completion by context c with value v (all 32 bits): it takes effect, or it is ignored.
+#[tactic(auto, unfolding(model::specs::Life::complete_by, model::specs::Life::takes_effect, laws::specs::Fold::all_of, model::specs::Board::is_source, model::specs::Board::with_request, model::specs::Board::kind_of))]
 pub(crate) fn complete_by(state: &mut State, c: usize, v: u32)
     requires { (state.old.shape.sources < source_room) × (c < context_room) }
     ensures { state.new ≡ complete_by state.old c v }
