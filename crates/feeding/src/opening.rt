@@ -1,26 +1,23 @@
 // The first line of a script: the board that it asks for.
-ghost use Rattle.std.specs.Prelude.{◌≡◌, ℕ, ◌≤◌, length, take, drop};
+ghost use Rattle.std.specs.Prelude.{◌≡◌, ◌≤◌, length, take, drop};
 ghost use Rattle.limits.specs.Limits.{held_room};
 ghost use Rattle.model.specs.Refusals.{answered};
 ghost use Rattle.commands.specs.Grammar.{command_of, opening_of};
 ghost use Rattle.replaying.specs.Replay.{kind_byte, kind_bytes, started, first_line};
 
 use crate::buffer::Buffer;
-use commands::Opening;
 use limits::HELD_ROOM;
-use model::{Answer, Answered, Refusal};
+use model::{Answered, Refusal};
 
 // A kind's letter as its byte.
 fn kind_byte(letter: u8) -> u8
     ensures { result ≡ kind_byte letter }
 {
-    if letter == b'l' {
-        return 0;
+    match letter {
+        b'l' => 0,
+        b'e' => 1,
+        _ => 2,
     }
-    if letter == b'e' {
-        return 1;
-    }
-    2
 }
 
 // The kinds of a first line, from a place on, as bytes.
@@ -29,34 +26,26 @@ fn kind_bytes(line: &[u8], from: usize) -> Buffer
     ensures { (take result.count result.bytes ≡ kind_bytes (drop from line.now)) × (result.count ≤ held_room) }
 {
     let mut bytes = [0u8; HELD_ROOM];
-    let mut i = from;
-    let mut count: usize = 0;
-    while i < line.len() {
+    let mut count = 0;
+    for i in from..line.len() {
         bytes[count] = kind_byte(line[i]);
         count += 1;
-        i += 1;
     }
-    Buffer {
-        bytes: bytes,
-        count: count,
-    }
+    Buffer { bytes, count }
 }
 
 // The board that a first line asks for, or its refusal.
 pub(crate) fn open_board(line: &[u8]) -> Answered
     requires { length line.now ≤ held_room }
-    ensures { started (answered result) ≡ first_line (opening_of (command_of line.now)) line.now }
+    ensures { started (answered result.answer result.state) ≡ first_line (opening_of (command_of line.now)) line.now }
 {
-    let opening = commands::parse_opening(line);
-    match opening {
-        Opening::Board(n, m, b, from) => {
-            let kinds = kind_bytes(line, from);
-            let bytes = kinds.bytes;
-            let count = kinds.count;
-            plic::make(n, m, b, &bytes[..count])
+    match commands::parse_opening(line) {
+        Some(asked) => {
+            let kinds = kind_bytes(line, asked.kinds);
+            plic::make(asked.sources, asked.contexts, asked.bits, kinds.held())
         }
-        Opening::Unreadable => Answered {
-            answer: Answer::Refused(Refusal::Unreadable),
+        None => Answered {
+            answer: Err(Refusal::Unreadable),
             state: plic::zero(),
         },
     }

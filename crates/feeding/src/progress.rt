@@ -1,6 +1,7 @@
 // How far a replay has come: what a piece of its script leaves of it.
 ghost use Rattle.std.specs.Prelude.{◌≡◌, [], ◌++◌, ℕ, ◌≤◌, length, take};
 ghost use Rattle.limits.specs.Limits.{held_room};
+ghost use Rattle.model.specs.Board.{zero_state};
 ghost use Rattle.replaying.specs.Replay.{ended};
 ghost use Rattle.replaying.specs.Pieces.{padded, paused};
 
@@ -37,16 +38,26 @@ pub(crate) fn standing(
     } }
 {
     let line = joined(first, more);
-    let bytes = line.bytes;
-    let replay = Replaying {
-        place: place,
-        state: state,
-        begun: bytes,
-        count: line.count,
-    };
     Progress {
-        replay: replay,
-        written: written,
+        replay: Replaying {
+            place,
+            state,
+            begun: line.bytes,
+            count: line.count,
+        },
+        written,
+    }
+}
+
+// A replay off a board, where no line has begun: before its first line, or ended by it.
+pub(crate) fn off_board(place: Place) -> Replaying
+    ensures { result ≡ record { place = place; state = zero_state; begun = padded []; count = 0 } }
+{
+    Replaying {
+        place,
+        state: plic::zero(),
+        begun: [0u8; HELD_ROOM],
+        count: 0,
     }
 }
 
@@ -54,14 +65,8 @@ pub(crate) fn standing(
 pub(crate) fn at_end(written: usize) -> Progress
     ensures { result ≡ record { replay = paused ended []; written = written } }
 {
-    let replay = Replaying {
-        place: Place::Ended,
-        state: plic::zero(),
-        begun: [0u8; HELD_ROOM],
-        count: 0,
-    };
     Progress {
-        replay: replay,
-        written: written,
+        replay: off_board(Place::Ended),
+        written,
     }
 }
