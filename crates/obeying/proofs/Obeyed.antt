@@ -64,23 +64,35 @@ commanded_sound Unreadable s f = f
 pub obeyed_sound : (c : Command) (s t : State) (said : Said) → Sound s → Obeyed c s t said → Sound t
 obeyed_sound c s t said f e = subst SoundAt (ap (λ (k : Told). k.stand) e) (commanded_sound c s f)
 
--- a command whose call answers so is obeyed, and says what the answer says
-module _ (c : Command) (a : Call) {s t : State} where
-  told : (says : ℕ → List ℕ) (said : ℕ → Said) → ((v : ℕ) → says v ≡ said_bytes (said v)) → commanded c s ≡ goes_on says (respond a s) →
-      (x : Result ℕ Refusal) → answered x t ≡ respond a s → Obeyed c s t (said_of said x)
-  unfolding goes_on answered answer_number answer_values said_of
-  told says said same is (Ok v) e = is ∙ ap (goes_on says) (sym e) ∙ (λ i. record { stand = on t; prints = same v i })
-  told says said same is (Err r) e = is ∙ ap (goes_on says) (sym e)
-      ∙ (λ i. record { stand = on t; prints = (cond_not (says 0) (refused_line (number_of r)) (not_zero r) ∙ (unfold said_bytes in refl)) i })
+-- a command is obeyed whose call answers so, and which says what the answer says
+module _ (says : ℕ → List ℕ) (said : ℕ → Said) (same : (v : ℕ) → says v ≡ said_bytes (said v)) where
+  told : (a : Call) (s t : State) (x : Result ℕ Refusal) → answered x t ≡ respond a s →
+      goes_on says (respond a s) ≡ record { stand = on t; prints = said_bytes (said_of said x) }
+  unfolding goes_on answered answer_number answer_values said_of said_bytes
+  told a s t (Ok v) e = ap (goes_on says) (sym e) ∙ (λ i. record { stand = on t; prints = same v i })
+  told a s t (Err r) e =
+      ap (goes_on says) (sym e) ∙ (λ i. record { stand = on t; prints = cond_not (says 0) (refused_line (number_of r)) (not_zero r) i })
 
-  pub told_silent : commanded c s ≡ goes_on silent (respond a s) → (x : Result ℕ Refusal) → answered x t ≡ respond a s → Obeyed c s t (said_of (λ _. Nothing) x)
-  told_silent = told silent (λ _. Nothing) (λ v. unfold silent said_bytes in refl)
+  pub obeyed_as : {command k : Command} → command ≡ k → (a : Call) (s t : State) → commanded k s ≡ goes_on says (respond a s) →
+      (x : Result ℕ Refusal) → answered x t ≡ respond a s → {y : Said} → y ≡ said_of said x → Obeyed command s t y
+  obeyed_as e a s t is x gives says_so =
+      ap (λ (k : Command). commanded k s) e ∙ is ∙ told a s t x gives
+      ∙ (λ i. record { stand = on t; prints = said_bytes (sym says_so i) })
 
-  pub told_valued : (letter : ℕ) → commanded c s ≡ goes_on (value_line letter) (respond a s) →
-      (x : Result ℕ Refusal) → answered x t ≡ respond a s → Obeyed c s t (said_of (Value letter) x)
-  told_valued letter = told (value_line letter) (Value letter) (λ v. unfold said_bytes in refl)
+pub silent_obeyed : {command k : Command} → command ≡ k → (a : Call) (s t : State) → commanded k s ≡ goes_on silent (respond a s) →
+    (x : Result ℕ Refusal) → answered x t ≡ respond a s → {y : Said} → y ≡ said_of (λ _. Nothing) x → Obeyed command s t y
+silent_obeyed = obeyed_as silent (λ _. Nothing) (λ v. unfold silent said_bytes in refl)
+
+pub valued_obeyed : (letter : ℕ) {command k : Command} → command ≡ k → (a : Call) (s t : State) → commanded k s ≡ goes_on (value_line letter) (respond a s) →
+    (x : Result ℕ Refusal) → answered x t ≡ respond a s → {y : Said} → y ≡ said_of (Value letter) x → Obeyed command s t y
+valued_obeyed letter = obeyed_as (value_line letter) (Value letter) (λ v. unfold said_bytes in refl)
 
 -- a line that is unreadable
 pub unreadable_obeyed : (s : State) → Obeyed Unreadable s s (Refused (number_of refusal.Unreadable))
 unfolding commanded said_bytes
 unreadable_obeyed s = refl
+
+pub told_unreadable : {command k : Command} → command ≡ k → (s : State) → Obeyed k s s (Refused (number_of refusal.Unreadable)) →
+    (n : ℕ) → n ≡ number_of refusal.Unreadable → Obeyed command s s (Refused n)
+told_unreadable e s is n same =
+    ap (λ (k : Command). commanded k s) e ∙ is ∙ (λ i. record { stand = on s; prints = said_bytes (Refused (sym same i)) })
