@@ -1,12 +1,14 @@
 -- A list of numbers in which one element, or a run of them, has changed.
 -- Assumes nothing.
 use mathlib.Core.Path.{◌≡◌, ◌∙◌, refl, sym, ap}
-use mathlib.Core.List.{List, [], ◌∷◌, ◌++◌}
+use mathlib.Core.List.{List, [], ◌∷◌, ◌++◌, append_assoc}
 use Prim.Native.Nat.{ℕ, suc, ◌+◌, ◌≤◌, ◌<◌}
 use native.Mathlib.Nat.{add-zero, suc-add, add-suc}
 use native.Mathlib.Omega.{arith}
-use lib.ListN.{length, get_or, set}
-use lib.Seq.{sets, get_or-set_same, get_or-set_other, set_comm}
+use lib.ListN.{length, get_or, set, take, drop}
+use borrow.Rule.Slice.PartMut.{put_mid}
+use Rattle.std.proofs.lemmas.List.{drop-drop}
+use lib.Seq.{sets, sets-eq, get_or-set_same, get_or-set_other, set_comm}
 use Rattle.laws.specs.Fold.{sum_to}
 use Rattle.laws.proofs.Fold.{sum_change}
 
@@ -30,3 +32,9 @@ sets_after l at [] j b h = refl
 sets_after l at (x ∷ xs) j b h =
     ap (λ (k : List ℕ). sets k (suc at) xs) (set_comm l j at b x (λ e. omega arith))
     ∙ sets_after (set l at x) (suc at) xs j b (omega arith)
+
+-- a text stored as a part of the list that is written over
+pub sets_part : (l : List ℕ) (at n : ℕ) (xs : List ℕ) → length xs ≡ n → at + n ≤ length l → put_mid at n l xs ≡ sets l at xs
+sets_part l at n xs e h =
+    ap (λ (k : List ℕ). take at l ++ (xs ++ k)) (drop-drop n at l ∙ ap (λ (k : ℕ). drop (at + k) l) (sym e))
+    ∙ sym (sets-eq xs l at (omega (arith, e, h)) ∙ append_assoc (take at l) xs (drop (at + length xs) l))

@@ -46,7 +46,7 @@ module _ {A : Type 0} (made : List ℕ → A) where
 
   -- so any two answers with one outcome are equal, and so are the states that go with them
   module _ (values : Result A Refusal → List ℕ) (read : (v : A) → made (values (Ok v)) ≡ v) where
-    answer_back : (x : Result A Refusal) → back (answer_number x) (values x) ≡ x
+    pub answer_back : (x : Result A Refusal) → back (answer_number x) (values x) ≡ x
     unfolding back answer_number
     answer_back (Ok v) = ap Ok (read v)
     answer_back (Err r) = back_refused r (values (Err r))
