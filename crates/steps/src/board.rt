@@ -23,6 +23,7 @@ pub struct Board {
 
 impl Board {
     // A state as a board, or refusal 2 where it is not sound.
+    #[tactic(auto, using(model::proofs::Sound::sound_facts))]
     pub fn new(state: State) -> Result<Board, Refusal>
         ensures board { IfOk result (λ b. b.state ≡ state) }
         ensures refused { IfErr result (λ why. (why ≡ NotSound) × (sound state ≡ false)) }
@@ -85,6 +86,7 @@ impl Board {
     }
 
     // Clock, claims, ticks waited by claims, and ages still open.
+    #[tactic(auto, using(crate::proofs::Bookings::claims_fit), unfolding(model::specs::Refusals::totals_values, model::specs::Calls::values_of, model::specs::Waits::board_claims, model::specs::Waits::board_waited, model::specs::Waits::source_claims, model::specs::Waits::source_waited))]
     pub fn totals(&self) -> Totals
         ensures { totals_values (Ok result) ≡ values_of totals self.now.state }
     {
