@@ -1,3 +1,3 @@
-pub mod Makes
-pub mod Refusing
+pub mod Unsound
+pub mod Reported
 pub mod Once

@@ -1,8 +1,7 @@
-// The controller's public face: making a state, the calls, and the reports. Each takes every value, checks soundness once, and answers
-// with the state; nothing here asks anything of its caller.
+// The controller's public face: making a state, the calls, and the reports. Each takes every value and checks soundness once; nothing
+// here asks anything of its caller.
 #![tactic(auto)]
 
-mod answers;
 mod calls;
 mod making;
 mod reports;

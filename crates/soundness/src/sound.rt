@@ -1,220 +1,142 @@
-// Whether a state is sound: each clause of the definition, computed on any contents. Loops over lent arrays; nothing rolls over.
-ghost use Rattle.std.specs.Prelude.{◌≡◌, Bool, ◌&&◌, ℕ, ◌+◌, ◌-◌, ◌*◌, ◌^◌, ◌≤◌, ◌<◌, leb, eqb, get_or};
+// Whether a state is sound: each clause of the definition, computed on any contents. Nothing rolls over. The tests on a source are joined by
+// `&`, and no source ends the fold over them: with no branch the compiler tests several sources at a time. `&&` or `all` there took twice
+// the instructions.
+ghost use Rattle.std.specs.Prelude.{◌≡◌, ◌-◌, ◌*◌, ◌^◌, ◌≤◌, ◌<◌, Bool, ◌&&◌, leb, eqb, get_or};
 ghost use Rattle.limits.specs.Limits.{source_room, last_source, context_room, word_room, bucket_room, most_bits};
 ghost use Rattle.laws.specs.Fold.{sum_to, all_to};
-ghost use Rattle.model.specs.Board.{within_limits};
+ghost use Rattle.model.specs.Board.{within_limits, kind_of, priority, request, enable_word};
+ghost use Rattle.model.specs.Waits.{source_claims, source_waited, board_claims, board_waited, bucket_claims, bucket_ticks};
 ghost use Rattle.model.specs.Registers.{kept};
-ghost use Rattle.model.specs.Sound.{sound_source, sound};
-ghost use Rattle.soundness.specs.Clauses.{sound_source_in, sound_context_in};
+ghost use Rattle.model.specs.Sound.{typed, all_zero, sound_source_at, sound_context, sound};
 
-use leaves::stages::stage_of;
-use leaves::totals::{bucket_total, source_total};
+use leaves::stages::request_of;
+use leaves::totals::total;
 use leaves::waits::open_age;
-use leaves::words::{kept_bits, power, wide};
+use leaves::words::{kept_bits, power};
 use limits::{
-    BUCKET_ROOM, CONTEXT_ROOM, ENABLE_ROOM, LAST_SOURCE, MOST_BITS, MOST_CONTEXTS, MOST_EDGES,
-    SOURCE_ROOM, WORD_ROOM,
+    BUCKET_ROOM, CONTEXT_ROOM, LAST_SOURCE, MOST_BITS, MOST_CONTEXTS, MOST_EDGES, SOURCE_ROOM,
+    WORD_ROOM,
 };
-use model::{Request, State};
+use model::{Settings, State};
 
-// The clauses on one source.
-fn source_sound(
-    kind: u8,
-    here: bool,
-    most: u8,
-    clock: u32,
-    priority: u8,
-    claims: u32,
-    waited: u32,
-    r: Request,
-) -> bool
-    ensures { result ≡ sound_source kind here most clock priority claims waited r }
+// Whether everything that a state holds of source i is zero.
+fn is_zero_at(state: &State, i: usize) -> bool
+    requires { i < source_room }
+    ensures { result ≡ all_zero (kind_of state.now.shape i) (priority state.now.settings i)
+        (source_claims state.now.counts i) (source_waited state.now.counts i) (request state.now.requests i) }
 {
-    let pending = r.stage == 1;
-    let idle = r.stage == 0;
-    let age = open_age(clock, pending, r.start);
-    let zero = (kind == 0)
-        & (priority == 0)
-        & idle
+    let r = request_of(&state.requests, i);
+    (state.shape.kind[i] == 0)
+        & (state.settings.priority[i] == 0)
+        & (r.stage == 0)
         & !r.line
         & (r.extra == 0)
         & (r.start == 0)
-        & (claims == 0)
-        & (waited == 0);
+        & (state.counts.claims[i] == 0)
+        & (state.counts.waited[i] == 0)
+}
+
+// The clauses on source i, and the one that the types keep: an array has its length, and clock and steps fit 32 bits.
+fn is_source_sound(state: &State, i: usize) -> bool
+    requires { (i < source_room) × (state.now.shape.bits ≤ most_bits) }
+    ensures { result ≡ (typed state.now && sound_source_at state.now i) }
+{
+    let kind = state.shape.kind[i];
+    let here = (1 <= i) & (i <= state.shape.sources as usize);
+    let r = request_of(&state.requests, i);
+    let idle = r.stage == 0;
+    let age = open_age(state.clock, r);
+    let waited = state.counts.waited[i];
     (kind <= 2)
-        & (here | zero)
-        & (priority <= most)
+        & (here | is_zero_at(state, i))
+        & (state.settings.priority[i] <= highest(state.shape.bits))
         & (r.stage <= 2)
-        & (r.start <= clock)
-        & (pending | (r.start == 0))
+        & (r.start <= state.clock)
+        & ((r.stage == 1) | (r.start == 0))
         & (r.extra <= MOST_EDGES)
         & ((kind == 2) | (r.extra == 0))
         & (!idle | (r.extra == 0))
         & !((kind == 0) & idle & r.line)
-        & ((waited as u64) + (age as u64) <= (clock as u64))
+        & (u64::from(waited) + u64::from(age) <= u64::from(state.clock))
 }
 
-// The clauses on source i.
-fn source_sound_at<'a>(
-    n: u32,
-    most: u8,
-    clock: u32,
-    kind: &'a [u8; SOURCE_ROOM],
-    priority: &'a [u8; SOURCE_ROOM],
-    stage: &'a [u8; SOURCE_ROOM],
-    line: &'a [bool; SOURCE_ROOM],
-    extra: &'a [u8; SOURCE_ROOM],
-    start: &'a [u32; SOURCE_ROOM],
-    claims: &'a [u32; SOURCE_ROOM],
-    waited: &'a [u32; SOURCE_ROOM],
-    i: usize,
-) -> bool
-    requires { i < source_room }
-    ensures { result ≡ sound_source_in n most clock kind.now priority.now stage.now line.now
-        extra.now start.now claims.now waited.now i }
+// The clauses on every source, and the one that the types keep.
+fn are_sources_sound(state: &State) -> bool
+    requires { state.now.shape.bits ≤ most_bits }
+    ensures { result ≡ (typed state.now && all_to (sound_source_at state.now) source_room) }
 {
-    let here = (1 <= i) & (i <= n as usize);
-    let r = Request {
-        stage: stage_of(stage, i),
-        line: line[i],
-        extra: extra[i],
-        start: start[i],
-    };
-    source_sound(
-        kind[i],
-        here,
-        most,
-        clock,
-        priority[i],
-        claims[i],
-        waited[i],
-        r,
-    )
+    (0..SOURCE_ROOM).fold(true, |sound, i| sound & is_source_sound(state, i))
 }
 
-// The clauses on every source.
-fn sources_sound<'a>(
-    n: u32,
-    most: u8,
-    clock: u32,
-    kind: &'a [u8; SOURCE_ROOM],
-    priority: &'a [u8; SOURCE_ROOM],
-    stage: &'a [u8; SOURCE_ROOM],
-    line: &'a [bool; SOURCE_ROOM],
-    extra: &'a [u8; SOURCE_ROOM],
-    start: &'a [u32; SOURCE_ROOM],
-    claims: &'a [u32; SOURCE_ROOM],
-    waited: &'a [u32; SOURCE_ROOM],
-) -> bool
-    ensures { result ≡ all_to (sound_source_in n most clock kind.now priority.now stage.now line.now
-        extra.now start.now claims.now waited.now) source_room }
+// Word w of context c's enables.
+#[tactic(auto, unfolding(model::specs::Board::enable_word))]
+fn enable_word(settings: &Settings, c: usize, w: usize) -> u32
+    requires { (c < context_room) × (w < word_room) }
+    ensures { result ≡ enable_word settings.now c w }
 {
-    let mut sound = true;
-    let mut i: usize = 0;
-    while i < SOURCE_ROOM {
-        let one = source_sound_at(
-            n, most, clock, kind, priority, stage, line, extra, start, claims, waited, i,
-        );
-        sound = sound & one;
-        i += 1;
-    }
-    sound
+    settings.enable[c * WORD_ROOM + w]
 }
 
 // A word of enables as it would be kept, for any word.
+#[tactic(auto, using(leaves::proofs::Kept::kept_none))]
 fn kept_word(n: u32, w: u32, v: u32) -> u32
     requires { (n ≤ last_source) × (w < word_room) }
     ensures { result ≡ kept n w v }
 {
-    if w <= n / 32 {
-        return kept_bits(n, w, v);
-    }
-    0
+    if w <= n / 32 { kept_bits(n, w, v) } else { 0 }
 }
 
 // Whether a context's words are zero.
-fn words_zero(enable: &[u32; ENABLE_ROOM], c: usize) -> bool
+fn are_words_zero(settings: &Settings, c: usize) -> bool
     requires { c < context_room }
-    ensures { result ≡ all_to (λ w. eqb (get_or enable.now (c * word_room + w) 0) 0) word_room }
+    ensures { result ≡ all_to (λ w. eqb (enable_word settings.now c w) 0) word_room }
 {
-    let mut zero = true;
-    let mut w: usize = 0;
-    while w < WORD_ROOM {
-        zero = zero & (enable[c * WORD_ROOM + w] == 0);
-        w += 1;
-    }
-    zero
+    (0..WORD_ROOM).all(|w| enable_word(settings, c, w) == 0)
 }
 
 // Whether a context's words have bits of sources alone.
-fn words_kept(n: u32, enable: &[u32; ENABLE_ROOM], c: usize) -> bool
+fn are_words_kept(n: u32, settings: &Settings, c: usize) -> bool
     requires { (n ≤ last_source) × (c < context_room) }
-    ensures { result ≡ all_to (λ w. eqb (get_or enable.now (c * word_room + w) 0) (kept n w (get_or enable.now (c * word_room + w) 0))) word_room }
+    ensures { result ≡ all_to (λ w. eqb (enable_word settings.now c w) (kept n w (enable_word settings.now c w))) word_room }
 {
-    let mut right = true;
-    let mut w: usize = 0;
-    while w < WORD_ROOM {
-        let word = enable[c * WORD_ROOM + w];
-        let kept = kept_word(n, w as u32, word);
-        right = right & (word == kept);
-        w += 1;
-    }
-    right
+    (0..WORD_ROOM).all(|w| {
+        let word = enable_word(settings, c, w);
+        word == kept_word(n, w as u32, word)
+    })
 }
 
-// The clauses on one context.
-fn context_sound<'a>(
-    n: u32,
-    m: u32,
-    most: u8,
-    enable: &'a [u32; ENABLE_ROOM],
-    threshold: &'a [u8; CONTEXT_ROOM],
-    c: usize,
-) -> bool
-    requires { (n ≤ last_source) × (c < context_room) }
-    ensures { result ≡ sound_context_in n m most enable.now threshold.now c }
+// The clauses on context c.
+fn is_context_sound(state: &State, c: usize) -> bool
+    requires { (state.now.shape.sources ≤ last_source) × (state.now.shape.bits ≤ most_bits) × (c < context_room) }
+    ensures { result ≡ sound_context state.now.shape state.now.settings c }
 {
-    let here = (c as u32) < m;
-    let limit = threshold[c];
-    let zero = words_zero(enable, c);
-    let right = words_kept(n, enable, c);
-    (here | (limit == 0)) & (here | zero) & (limit <= most) & right
+    let here = c < state.shape.contexts as usize;
+    let limit = state.settings.threshold[c];
+    (here | (limit == 0))
+        & (here | are_words_zero(&state.settings, c))
+        & (limit <= highest(state.shape.bits))
+        & are_words_kept(state.shape.sources, &state.settings, c)
 }
 
 // The clauses on every context.
-fn contexts_sound<'a>(
-    n: u32,
-    m: u32,
-    most: u8,
-    enable: &'a [u32; ENABLE_ROOM],
-    threshold: &'a [u8; CONTEXT_ROOM],
-) -> bool
-    requires { n ≤ last_source }
-    ensures { result ≡ all_to (sound_context_in n m most enable.now threshold.now) context_room }
+fn are_contexts_sound(state: &State) -> bool
+    requires { (state.now.shape.sources ≤ last_source) × (state.now.shape.bits ≤ most_bits) }
+    ensures { result ≡ all_to (sound_context state.now.shape state.now.settings) context_room }
 {
-    let mut sound = true;
-    let mut c: usize = 0;
-    while c < CONTEXT_ROOM {
-        let one = context_sound(n, m, most, enable, threshold, c);
-        sound = sound & one;
-        c += 1;
-    }
-    sound
+    (0..CONTEXT_ROOM).all(|c| is_context_sound(state, c))
 }
 
 // Whether the buckets' ticks come to a total: each is taken off what is left of it, so that no sum is formed that could not fit.
+#[tactic(auto, using(laws::proofs::Fold::sum_more), unfolding(laws::specs::Fold::sum_to))]
 fn ticks_come_to(ticks: &[u64; BUCKET_ROOM], total: u64) -> bool
     ensures { result ≡ eqb total (sum_to (λ k. get_or ticks.now k 0) bucket_room) }
 {
     let mut left = total;
-    let mut k: usize = 0;
-    while k < BUCKET_ROOM {
-        let short = left < ticks[k];
-        if short {
+    for bucket in ticks {
+        let Some(rest) = left.checked_sub(*bucket) else {
             return false;
-        }
-        left -= ticks[k];
-        k += 1;
+        };
+        left = rest;
     }
     left == 0
 }
@@ -235,61 +157,25 @@ fn highest(b: u32) -> u8
 }
 
 // The clauses on the sums.
-fn sums_sound<'a>(
-    steps: u32,
-    claims: &'a [u32; SOURCE_ROOM],
-    waited: &'a [u32; SOURCE_ROOM],
-    bucket_claims: &'a [u32; BUCKET_ROOM],
-    bucket_ticks: &'a [u64; BUCKET_ROOM],
-) -> bool
-    ensures { result ≡ (leb (sum_to (λ i. get_or claims.now i 0) source_room) steps &&
-        (eqb (sum_to (λ i. get_or claims.now i 0) source_room) (sum_to (λ k. get_or bucket_claims.now k 0) bucket_room) && eqb
-        (sum_to (λ i. get_or waited.now i 0) source_room) (sum_to (λ k. get_or bucket_ticks.now k 0) bucket_room))) }
+fn are_sums_sound(state: &State) -> bool
+    ensures { result ≡ (leb (board_claims state.now.counts) state.now.steps &&
+        (eqb (board_claims state.now.counts) (sum_to (bucket_claims state.now.buckets) bucket_room) &&
+        eqb (board_waited state.now.counts) (sum_to (bucket_ticks state.now.buckets) bucket_room))) }
 {
-    let claimed = source_total(claims);
-    let ticks = source_total(waited);
-    let booked = bucket_total(bucket_claims);
-    let right = ticks_come_to(bucket_ticks, ticks);
-    (claimed <= wide(steps)) & ((claimed == booked) & right)
+    let claims = total(&state.counts.claims);
+    (claims <= u64::from(state.steps))
+        & (claims == total(&state.buckets.claims))
+        & ticks_come_to(&state.buckets.ticks, total(&state.counts.waited))
 }
 
 // Whether a state is sound, whatever it holds: true or false, and nothing is refused.
-pub fn is_sound(state: State) -> bool
-    ensures { result ≡ sound state }
+#[tactic(auto, using(crate::proofs::Joined::unsound_limits, crate::proofs::Joined::sound_parts, model::proofs::Sound::limits_facts))]
+pub fn is_sound(state: &State) -> bool
+    ensures { result ≡ sound state.now }
 {
-    let n = state.shape.sources;
-    let m = state.shape.contexts;
-    let b = state.shape.bits;
-    if !within_limits(n, m, b) {
-        return false;
-    }
-    let most = highest(b);
-    let sources = sources_sound(
-        n,
-        most,
-        state.clock,
-        &state.shape.kind,
-        &state.settings.priority,
-        &state.requests.stage,
-        &state.requests.line,
-        &state.requests.extra,
-        &state.requests.start,
-        &state.counts.claims,
-        &state.counts.waited,
-    );
-    let contexts = contexts_sound(
-        n,
-        m,
-        most,
-        &state.settings.enable,
-        &state.settings.threshold,
-    );
-    let sums = sums_sound(
-        state.steps,
-        &state.counts.claims,
-        &state.counts.waited,
-        &state.buckets.claims,
-        &state.buckets.ticks,
-    );
-    sources & (contexts & sums)
+    let shape = &state.shape;
+    within_limits(shape.sources, shape.contexts, shape.bits)
+        && are_sources_sound(state)
+        && are_contexts_sound(state)
+        && are_sums_sound(state)
 }

@@ -1,8 +1,9 @@
 // A sound state, and the calls on it: what a public call goes on once it has checked its state, and a batch without any further check.
-ghost use Rattle.std.specs.Prelude.{◌≡◌, Ok};
+ghost use Rattle.std.specs.Prelude.{◌≡◌, IfOk, IfErr, Ok, false};
+ghost use Rattle.model.specs.declared.Refusal.TheVariants.{NotSound};
 ghost use Rattle.model.specs.Refusals.{answered, totals_values};
 ghost use Rattle.model.specs.Calls.{line, advance, read, write, notification, totals, values_of, respond};
-ghost use Rattle.model.specs.Sound.{Sound};
+ghost use Rattle.model.specs.Sound.{sound, Sound};
 
 use crate::access::{read, write};
 use crate::requests::set_line;
@@ -11,6 +12,7 @@ use leaves::checks::{access_check, advance_check, context_check, line_check};
 use leaves::registers::register_at;
 use leaves::totals::{open_total, total};
 use model::{Refusal, State, Totals};
+use soundness::is_sound;
 
 // A state of which it is known that it is sound: whoever makes one has checked it, or proves it.
 #[derive(Clone, Copy)]
@@ -20,6 +22,19 @@ pub struct Board {
 }
 
 impl Board {
+    // A state as a board, or refusal 2 where it is not sound.
+    #[tactic(auto, using(model::proofs::Sound::sound_facts))]
+    pub fn new(state: State) -> Result<Board, Refusal>
+        ensures board { IfOk result (λ b. b.state ≡ state) }
+        ensures refused { IfErr result (λ why. (why ≡ NotSound) × (sound state ≡ false)) }
+    {
+        if is_sound(&state) {
+            Ok(Board { state })
+        } else {
+            Err(Refusal::NotSound)
+        }
+    }
+
     // Sets a source's line to a level: 0, or a refusal (3, 6).
     pub fn line(&mut self, source: u32, level: bool) -> Result<u32, Refusal>
         ensures { answered result self.new.state ≡ respond (line source level) self.old.state }
@@ -71,7 +86,7 @@ impl Board {
     }
 
     // Clock, claims, ticks waited by claims, and ages still open.
-    #[tactic(auto, unfolding(model::specs::Refusals::totals_values, model::specs::Calls::values_of, model::specs::Waits::board_claims, model::specs::Waits::board_waited, model::specs::Waits::source_claims, model::specs::Waits::source_waited))]
+    #[tactic(auto, using(crate::proofs::Bookings::claims_fit), unfolding(model::specs::Refusals::totals_values, model::specs::Calls::values_of, model::specs::Waits::board_claims, model::specs::Waits::board_waited, model::specs::Waits::source_claims, model::specs::Waits::source_waited))]
     pub fn totals(&self) -> Totals
         ensures { totals_values (Ok result) ≡ values_of totals self.now.state }
     {
