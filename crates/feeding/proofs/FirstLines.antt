@@ -8,9 +8,8 @@ use lib.ListN.{take, drop}
 use borrow.Author.Tests.{eqb-true}
 use Rattle.limits.specs.Limits.{held_room}
 use Rattle.laws.proofs.Truth.{cond_not, cond_elim}
+use Rattle.std.specs.Prelude.{Result, Ok, Err}
 use Rattle.model.specs.declared.Answered.{Answered}
-use Rattle.model.specs.declared.Answer.{Answer}
-use Rattle.model.specs.declared.Answer.TheVariants.{Value, Refused}
 use Rattle.model.specs.declared.Refusal.{Refusal}
 use Rattle.model.specs.Refusals.{number_of, answer_number, answered}
 use Rattle.model.specs.Calls.{make}
@@ -37,20 +36,20 @@ unfolding answer
 first_sound bytes = first_line_sound (opening_of (command_of bytes)) bytes
 
 -- the first line: a board is made, or none
-module _ (l line : List ℕ) (made : Answered) (cut : line ≡ take held_room l) (started-is : started (answered made) ≡ first_line (opening_of (command_of line)) line) where
-  told_first : answer before l ≡ started (answered made)
+module _ (l line : List ℕ) (made : Answered) (cut : line ≡ take held_room l) (started-is : started (answered made.answer made.state) ≡ first_line (opening_of (command_of line)) line) where
+  told_first : answer before l ≡ started (answered made.answer made.state)
   told_first = sym (ap (answer before) cut ∙ cut_answer before l) ∙ (unfold answer in sym started-is)
 
-  pub told_made : (v : ℕ) → made.answer ≡ Value v → answer before l ≡ record { stand = on made.state; prints = [] }
+  pub told_made : (v : ℕ) → made.answer ≡ Ok v → answer before l ≡ record { stand = on made.state; prints = [] }
   unfolding started answered answer_number
-  told_made v e = told_first ∙ ap (λ (a : Answer). started (answered (record { answer = a; state = made.state }))) e
+  told_made v e = told_first ∙ ap (λ (a : Result ℕ Refusal). started (answered a made.state)) e
 
-  pub told_unmade : (why : Refusal) → made.answer ≡ Refused why → answer before l ≡ record { stand = ended; prints = refused_line (number_of why) }
+  pub told_unmade : (why : Refusal) → made.answer ≡ Err why → answer before l ≡ record { stand = ended; prints = refused_line (number_of why) }
   unfolding started answered answer_number
   told_unmade why e =
-      told_first ∙ ap (λ (a : Answer). started (answered (record { answer = a; state = made.state }))) e
+      told_first ∙ ap (λ (a : Result ℕ Refusal). started (answered a made.state)) e
       ∙ (λ i. record { stand = cond_not (on made.state) ended (not_zero why) i; prints = cond_not [] (refused_line (number_of why)) (not_zero why) i })
 
   -- and the board is sound
-  pub made_is_sound : (v : ℕ) → made.answer ≡ Value v → Sound made.state
+  pub made_is_sound : (v : ℕ) → made.answer ≡ Ok v → Sound made.state
   made_is_sound v e = subst SoundAt (ap (λ (t : Told). t.stand) (told_made v e)) (first_sound l)

@@ -8,15 +8,15 @@ use native.Mathlib.Omega.{arith}
 use lib.ListN.{length, get_or, take, drop, replicate, length-replicate}
 use lib.Seq.{sets, sets-eq, take_all, take-append_seam}
 use Rattle.laws.proofs.Truth.{cond_so}
-use Rattle.model.specs.declared.Answer.TheVariants.{Value}
+use Rattle.std.specs.Prelude.{Result, Ok}
+use Rattle.model.specs.declared.Refusal.{Refusal}
 use Rattle.model.specs.declared.Refusal.TheVariants.{NotSound}
 use Rattle.model.specs.Refusals.{number_of, answer_number, answer_values}
 use Rattle.replaying.specs.declared.Fed.{Fed}
-use Rattle.replaying.specs.declared.Taken.TheVariants.{Bytes}
 use Rattle.replaying.specs.declared.Ending.{Ending}
 use Rattle.replaying.specs.declared.Replaying.{Replaying}
 use Rattle.replaying.specs.Replay.{before, Replay, fed_all, fresh, replay}
-use Rattle.replaying.specs.Pieces.{shown, paused, Feeding, taken_number, taken_values, printed_by, fed_of, part_of, accepted, feeding, ending, Finishing, ending_of, finishing, Replayed, fed_pieces, printed_in_pieces, joined_pieces}
+use Rattle.replaying.specs.Pieces.{shown, paused, Feeding, taken_values, printed_by, fed_of, part_of, accepted, feeding, ending, Finishing, ending_of, finishing, Replayed, fed_pieces, printed_in_pieces, joined_pieces}
 use Rattle.replaying.proofs.Chunks.{fed_apart}
 use Rattle.replaying.proofs.Short.{ending_short}
 use Rattle.replaying.proofs.InPieces.{paused_of, replay_fit, piece_held, in_pieces}
@@ -29,12 +29,12 @@ stored text bytes h =
     ∙ take-append_seam text (drop (0 + length text) bytes)
 
 -- a piece that is taken whole, fed to a replay that can go on
-module _ (done piece output output' : List ℕ) (x : Fed) (room : length piece ≤ length output / 20)
-    (promise : fed_of x output' ≡ feeding (paused_of (fed_all fresh done)) piece output) where
+module _ (done piece output output' : List ℕ) (x : Result Fed Refusal) (next : Replaying) (room : length piece ≤ length output / 20)
+    (promise : fed_of x next output' ≡ feeding (paused_of (fed_all fresh done)) piece output) where
   abbrev after : Replay
   after = fed_all (shown (paused_of (fed_all fresh done))) piece
 
-  fed : fed_of x output' ≡ accepted after (length piece) output
+  fed : fed_of x next output' ≡ accepted after (length piece) output
   unfolding feeding part_of
   fed =
       promise ∙ cond_so _ _ (replay_fit done)
@@ -43,7 +43,7 @@ module _ (done piece output output' : List ℕ) (x : Fed) (room : length piece �
   held_then : paused_of after ≡ paused_of (fed_all fresh (done ++ piece))
   held_then = piece_held (fed_all fresh done) piece ∙ ap paused_of (sym (fed_apart fresh done piece))
 
-  replay_then : x.replay ≡ paused_of (fed_all fresh (done ++ piece))
+  replay_then : next ≡ paused_of (fed_all fresh (done ++ piece))
   unfolding fed_of accepted
   replay_then = ap (λ (f : Feeding). f.replay) fed ∙ held_then
 
@@ -60,14 +60,14 @@ chain_is : {r last : Replaying} {pieces : List (List ℕ)} {printed : List ℕ} 
     ◌≡◌ {A = Replayed} (record { replay = last; printed = printed }) (fed_pieces (paused_of (fed_all fresh done)) pieces)
 unfolding fed_pieces
 chain_is none done e = λ i. record { replay = e i; printed = [] }
-chain_is (more {pieces = pieces} piece output output' x room promise fits rest) done e =
+chain_is (more {next = next} {pieces = pieces} piece output output' x room promise fits rest) done e =
     let promised = promise ∙ ap (λ (k : Replaying). feeding k piece output) e in
-    let later = chain_is rest (done ++ piece) (replay_then done piece output output' x room promised) in
-    let here = printed_then done piece output output' x room promised fits in
+    let later = chain_is rest (done ++ piece) (replay_then done piece output output' x next room promised) in
+    let here = printed_then done piece output output' x next room promised fits in
     let printed : List ℕ = (fed_all (shown (paused_of (fed_all fresh done))) piece).printed in
     (λ i. record { replay = (later i).replay; printed = here i ++ (later i).printed })
     ∙ ap (λ (k : Replaying). record { replay = (fed_pieces k pieces).replay; printed = printed ++ (fed_pieces k pieces).printed })
-    (sym (held_then done piece output output' x room promised))
+    (sym (held_then done piece output output' x next room promised))
 
 -- what `finish` leaves is the end of the script
 finished_is : (r : Replaying) (e : Ending) → ending_of e ≡ finishing r → take (get_or (answer_values e.answer) 0 0) e.bytes ≡ ending r
@@ -106,8 +106,8 @@ module _ (done piece : List ℕ) where
   abbrev wide : List ℕ
   wide = replicate (20 * length piece + length then.printed) 0
 
-  abbrev answer : Fed
-  answer = record { taken = Bytes (length piece) (length then.printed); replay = paused_of then }
+  abbrev answer : Result Fed Refusal
+  answer = Ok (record { taken = length piece; printed = length then.printed })
 
   wide_length : length wide ≡ 20 * length piece + length then.printed
   wide_length = length-replicate {A = ℕ} (20 * length piece + length then.printed) 0
@@ -115,8 +115,8 @@ module _ (done piece : List ℕ) where
   wide_room : length piece ≤ length wide / 20
   wide_room = omega (arith, wide_length, div-add-mod (length wide) 20, mod-lt (length wide) {m = 20} (omega arith))
 
-  answered : fed_of answer (sets wide 0 then.printed) ≡ feeding (paused_of (fed_all fresh done)) piece wide
-  unfolding fed_of accepted feeding part_of taken_number taken_values
+  answered : fed_of answer (paused_of then) (sets wide 0 then.printed) ≡ feeding (paused_of (fed_all fresh done)) piece wide
+  unfolding fed_of accepted feeding part_of answer_number taken_values
   answered = sym (
       cond_so _ _ (replay_fit done)
       ∙ ap (λ (l : List ℕ). accepted (fed_all (shown (paused_of (fed_all fresh done))) l) (length l) wide) (take_all (length wide / 20) piece wide_room)
@@ -131,7 +131,7 @@ feedable [] done = record { last = paused_of (fed_all fresh done); printed = [];
 feedable (piece ∷ pieces) done =
     let output' = sets (wide done piece) 0 (then done piece).printed in
     let rest = feedable pieces (done ++ piece) in
-    let same = held_then done piece (wide done piece) output' (answer done piece) (wide_room done piece) (answered done piece) in
+    let same = held_then done piece (wide done piece) output' (answer done piece) (paused_of (then done piece)) (wide_room done piece) (answered done piece) in
     record {
       last = rest.last;
       printed = take (printed_by (answer done piece)) output' ++ rest.printed;
@@ -142,7 +142,7 @@ feedable (piece ∷ pieces) done =
 -- so can that of the end: a replay that can go on, as every one that is fed, has an answer of `finish`
 pub finishable : (done : List ℕ) →
     let r : Replaying = paused_of (fed_all fresh done) in
-    ending_of (record { answer = Value (length (ending r)); bytes = sets (replicate 160 0) 0 (ending r) }) ≡ finishing r
+    ending_of (record { answer = Ok (length (ending r)); bytes = sets (replicate 160 0) 0 (ending r) }) ≡ finishing r
 unfolding ending_of finishing answer_number answer_values
 finishable done = λ i. record {
   number = sym (cond_so 0 (number_of NotSound) (replay_fit done)) i;

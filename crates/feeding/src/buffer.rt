@@ -1,5 +1,6 @@
 // The first bytes of a line, as many as are held. Leaves: lent bytes only.
-ghost use Rattle.std.specs.Prelude.{◌≡◌, [], ◌∷◌, ◌++◌, ◌≤◌, length, take};
+ghost use Rattle.std.specs.Prelude.{◌≡◌, [], ◌∷◌, ◌++◌, ◌+◌, ◌-◌, ◌≤◌, length, take};
+ghost use Rattle.std.proofs.lemmas.List.Edits.{sets};
 ghost use Rattle.limits.specs.Limits.{held_room};
 ghost use Rattle.replaying.specs.Pieces.{padded};
 ghost use Rattle.feeding.specs.Engine.{stand_in};
@@ -23,15 +24,25 @@ impl Buffer {
     }
 }
 
+// Adds bytes to those that are held, as far as there is room. Returns how many are held then.
+fn append(bytes: &mut [u8; HELD_ROOM], held: usize, more: &[u8]) -> usize
+    requires { held ≤ held_room }
+    ensures bytes { bytes.new ≡ sets bytes.old held (take (held_room - held) more.now) }
+    ensures count { result ≡ held + length (take (held_room - held) more.now) }
+{
+    let n = more.len().min(HELD_ROOM - held);
+    bytes[held..held + n].copy_from_slice(&more[..n]);
+    held + n
+}
+
 // A line in two parts, as far as there is room.
 pub(crate) fn joined(first: &[u8], more: &[u8]) -> Buffer
     requires { length first.now ≤ held_room }
     ensures { result ≡ record { bytes = padded (first.now ++ more.now); count = length (take held_room (first.now ++ more.now)) } }
 {
-    let count = HELD_ROOM.min(first.len() + more.len());
-    let mut bytes = [0u8; HELD_ROOM];
-    bytes[..first.len()].copy_from_slice(first);
-    bytes[first.len()..count].copy_from_slice(&more[..count - first.len()]);
+    let mut bytes = [0; HELD_ROOM];
+    let held = append(&mut bytes, 0, first);
+    let count = append(&mut bytes, held, more);
     Buffer { bytes, count }
 }
 

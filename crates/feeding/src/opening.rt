@@ -10,6 +10,7 @@ use limits::HELD_ROOM;
 use model::{Answered, Refusal};
 
 // A kind's letter as its byte.
+#[tactic(auto, unfolding(replaying::specs::Replay::kind_byte))]
 fn kind_byte(letter: u8) -> u8
     ensures { result ≡ kind_byte letter }
 {
@@ -40,11 +41,11 @@ pub(crate) fn open_board(line: &[u8]) -> Answered
     ensures { started (answered result.answer result.state) ≡ first_line (opening_of (command_of line.now)) line.now }
 {
     match commands::parse_opening(line) {
-        Some(asked) => {
-            let kinds = kind_bytes(line, asked.kinds);
-            plic::make(asked.sources, asked.contexts, asked.bits, kinds.held())
+        commands::Opening::Board(n, m, b, from) => {
+            let kinds = kind_bytes(line, from);
+            plic::make(n, m, b, kinds.held())
         }
-        None => Answered {
+        commands::Opening::Unreadable => Answered {
             answer: Err(Refusal::Unreadable),
             state: plic::zero(),
         },

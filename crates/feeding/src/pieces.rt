@@ -76,6 +76,7 @@ pub(crate) fn feed_part(replay: &Replaying, input: &[u8], output: &mut [u8]) -> 
 }
 
 // Whether a replay can go on.
+#[tactic(auto, unfolding(replaying::specs::Pieces::fit, replaying::specs::Pieces::board_sound, laws::specs::Fold::all_of))]
 pub(crate) fn is_fit(replay: &Replaying) -> bool
     ensures { result ≡ fit replay.now }
 {
@@ -92,6 +93,7 @@ pub(crate) fn is_fit(replay: &Replaying) -> bool
 }
 
 // A replay before its first line.
+#[tactic(auto, unfolding(replaying::specs::Pieces::paused))]
 pub fn start() -> Replaying
     ensures { result ≡ paused before [] }
 {

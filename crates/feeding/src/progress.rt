@@ -5,7 +5,7 @@ ghost use Rattle.model.specs.Board.{zero_state};
 ghost use Rattle.replaying.specs.Replay.{ended};
 ghost use Rattle.replaying.specs.Pieces.{padded, paused};
 
-use crate::buffer::joined;
+use crate::buffer::{Buffer, joined};
 use limits::HELD_ROOM;
 use model::State;
 use replaying::{Place, Replaying};
@@ -37,19 +37,20 @@ pub(crate) fn standing(
       written = written;
     } }
 {
-    let line = joined(first, more);
+    let Buffer { bytes, count } = joined(first, more);
     Progress {
         replay: Replaying {
             place,
             state,
-            begun: line.bytes,
-            count: line.count,
+            begun: bytes,
+            count,
         },
         written,
     }
 }
 
 // A replay off a board, where no line has begun: before its first line, or ended by it.
+#[tactic(auto, unfolding(replaying::specs::Pieces::padded))]
 pub(crate) fn off_board(place: Place) -> Replaying
     ensures { result ≡ record { place = place; state = zero_state; begun = padded []; count = 0 } }
 {
@@ -62,6 +63,7 @@ pub(crate) fn off_board(place: Place) -> Replaying
 }
 
 // A replay that its first line has ended.
+#[tactic(auto, unfolding(replaying::specs::Pieces::paused))]
 pub(crate) fn at_end(written: usize) -> Progress
     ensures { result ≡ record { replay = paused ended []; written = written } }
 {
