@@ -18,9 +18,10 @@ use Rattle.model.proofs.Make.{made_sound}
 use Rattle.commands.specs.declared.Opening.{Opening}
 use Rattle.commands.specs.declared.Opening.TheVariants as opening
 use Rattle.commands.specs.Grammar.{command_of, opening_of}
-use Rattle.replaying.specs.Replay.{before, on, ended, Told, refused_line, kind_bytes, started, bad_start, first_line, answer}
+use Rattle.replaying.specs.Replay.{Stand, before, on, ended, Told, refused_line, kind_bytes, started, bad_start, first_line, answer}
 use Rattle.replaying.proofs.Through.{cut_answer}
-use Rattle.obeying.proofs.Obeyed.{SoundAt, not_zero}
+use Rattle.obeying.specs.Obey.{SoundAt}
+use Rattle.obeying.proofs.Obeyed.{not_zero, commanded_sound}
 
 made_stand : (n m b : ℕ) (kinds : List ℕ) → SoundAt (started (make n m b kinds)).stand
 unfolding started
@@ -34,6 +35,13 @@ first_line_sound opening.Unreadable bytes = tt
 first_sound : (bytes : List ℕ) → SoundAt (answer before bytes).stand
 unfolding answer
 first_sound bytes = first_line_sound (opening_of (command_of bytes)) bytes
+
+-- a line leads from a sound board to one, and the first line too
+pub answer_sound : (p : Stand) (l : List ℕ) → SoundAt p → SoundAt (answer p l).stand
+unfolding answer
+answer_sound before l f = first_sound l
+answer_sound (on s) l f = commanded_sound (command_of l) s f
+answer_sound ended l f = tt
 
 -- the first line: a board is made, or none
 module _ (l line : List ℕ) (made : Answered) (cut : line ≡ take held_room l) (started-is : started (answered made.answer made.state) ≡ first_line (opening_of (command_of line)) line) where

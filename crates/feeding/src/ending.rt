@@ -4,6 +4,7 @@ ghost use Rattle.std.proofs.Math.Bool.{So};
 ghost use Rattle.model.specs.Calls.{totals, values_of};
 ghost use Rattle.replaying.specs.Replay.{totals_line, closing, last_in, finished};
 ghost use Rattle.replaying.specs.Text.{Written};
+ghost use Rattle.obeying.specs.Obey.{SoundAt};
 ghost use Rattle.replaying.specs.Pieces.{stand_of, shown, fit, ending_of, finishing};
 
 use crate::pieces::{feed_part, is_fit};
@@ -30,7 +31,7 @@ fn put_board(board: &Board, output: &mut [u8], at: usize) -> usize
 
 // The last line of output, by where the replay stands.
 fn put_closing(replay: &Replaying, output: &mut [u8], at: usize) -> usize
-    requires { (at + 128 ≤ length output.old) × So (fit replay.now) }
+    requires { (at + 128 ≤ length output.old) × SoundAt (stand_of replay.now.place replay.now.state) }
     ensures { Written output.old output.new at result (closing (stand_of replay.now.place replay.now.state)) }
 {
     match replay.place {
@@ -62,11 +63,16 @@ fn put_ending(replay: &Replaying, output: &mut [u8]) -> usize
 pub fn finish(replay: &Replaying) -> Ending
     ensures { ending_of result ≡ finishing replay.now }
 {
-    let mut bytes = [0u8; 160];
-    let answer = if is_fit(replay) {
-        Ok(put_ending(replay, &mut bytes) as u32)
-    } else {
-        Err(Refusal::NotSound)
-    };
-    Ending { answer, bytes }
+    let mut bytes = [0; 160];
+    if !is_fit(replay) {
+        return Ending {
+            answer: Err(Refusal::NotSound),
+            bytes,
+        };
+    }
+    let printed = put_ending(replay, &mut bytes);
+    Ending {
+        answer: Ok(printed as u32),
+        bytes,
+    }
 }

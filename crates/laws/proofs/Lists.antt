@@ -2,13 +2,18 @@
 -- Assumes nothing.
 use mathlib.Core.Path.{◌≡◌, ◌∙◌, refl, sym, ap}
 use mathlib.Core.List.{List, [], ◌∷◌, ◌++◌, append_assoc}
-use Prim.Native.Nat.{ℕ, suc, ◌+◌, ◌≤◌, ◌<◌}
+use mathlib.Core.Bool.{So}
+use mathlib.Core.Logic.{⊎_elim}
+use Prim.Native.Nat.{ℕ, suc, ◌+◌, ◌≤◌, ◌<◌, min}
+use lib.Dec.{leb}
+use borrow.Author.Tests.{leb-true, leb-false}
+use Rattle.laws.proofs.Truth.{dichotomy}
 use native.Mathlib.Nat.{add-zero, suc-add, add-suc}
 use native.Mathlib.Omega.{arith}
 use lib.ListN.{length, get_or, set, take, drop}
 use borrow.Rule.Slice.PartMut.{put_mid}
 use Rattle.std.proofs.lemmas.List.{drop-drop}
-use lib.Seq.{sets, sets-eq, get_or-set_same, get_or-set_other, set_comm}
+use lib.Seq.{sets, sets-eq, take_all, take-length, get_or-set_same, get_or-set_other, set_comm}
 use Rattle.laws.specs.Fold.{sum_to}
 use Rattle.laws.proofs.Fold.{sum_change}
 
@@ -38,3 +43,12 @@ pub sets_part : (l : List ℕ) (at n : ℕ) (xs : List ℕ) → length xs ≡ n 
 sets_part l at n xs e h =
     ap (λ (k : List ℕ). take at l ++ (xs ++ k)) (drop-drop n at l ∙ ap (λ (k : ℕ). drop (at + k) l) (sym e))
     ∙ sym (sets-eq xs l at (omega (arith, e, h)) ∙ append_assoc (take at l) xs (drop (at + length xs) l))
+
+-- as many as there are, or as there is room for
+pub take_most : (k : ℕ) (l : List ℕ) → take (min (length l) k) l ≡ take k l
+take_most k l = ⊎_elim
+    (λ (t : So (leb (length l) k)).
+    let all : min (length l) k ≡ length l = omega (arith, leb-true (length l) k t) in
+    ap (λ (n : ℕ). take n l) all ∙ take-length l ∙ sym (take_all k l (leb-true (length l) k t)))
+    (λ t. let some : min (length l) k ≡ k = omega (arith, leb-false (length l) k t) in ap (λ (n : ℕ). take n l) some)
+    (dichotomy (leb (length l) k))

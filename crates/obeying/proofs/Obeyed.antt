@@ -1,6 +1,6 @@
 -- A command of a script, by the call that it asks for: refused, or gone through; and the state after it is sound.
 -- Assumes nothing.
-use mathlib.Core.Path.{◌≡◌, ◌∙◌, refl, sym, ap, subst}
+use mathlib.Core.Path.{◌≡◌, ◌∙◌, refl, sym, ap}
 use mathlib.Core.Bool.{false}
 use mathlib.Core.List.{List}
 use Prim.Native.Nat.{ℕ}
@@ -20,9 +20,9 @@ use Rattle.commands.specs.declared.Command.{Command}
 use Rattle.commands.specs.declared.Command.TheVariants.{Make, Line, Advance, Read, Write, Notify, Unreadable}
 use Rattle.replaying.specs.declared.Said.{Said}
 use Rattle.replaying.specs.declared.Said.TheVariants.{Nothing, Value, Refused}
-use Rattle.replaying.specs.Replay.{Stand, before, on, ended, Told, goes_on, silent, commanded, refused_line, value_line}
+use Rattle.replaying.specs.Replay.{on, goes_on, silent, commanded, refused_line, value_line}
 use Rattle.replaying.specs.Text.{said_bytes}
-use Rattle.obeying.specs.Obey.{said_of, Obeyed}
+use Rattle.obeying.specs.Obey.{said_of, Obeyed, SoundAt}
 
 pub not_zero : (r : Refusal) → eqb (number_of r) 0 ≡ false
 not_zero r =
@@ -45,13 +45,8 @@ module _ (says : ℕ → List ℕ) (a : Call) (s : State) where
   unfolding goes_on
   told_accepted v t e f g = ap (goes_on says) (accepted_as a s e) ∙ (λ i. record { stand = on (g i); prints = says (f i) })
 
--- a board that is sound
-abbrev pub SoundAt : Stand → Type 0
-SoundAt before = Unit {0}
-SoundAt (on s) = Sound s
-SoundAt ended = Unit {0}
-
-commanded_sound : (c : Command) (s : State) → Sound s → SoundAt (commanded c s).stand
+-- whatever the command, a sound board stays sound
+pub commanded_sound : (c : Command) (s : State) → Sound s → SoundAt (commanded c s).stand
 unfolding commanded goes_on
 commanded_sound (Make n m b k) s f = f
 commanded_sound (Line i v) s f = stays_sound s (line i v) f
@@ -60,9 +55,6 @@ commanded_sound (Read off) s f = stays_sound s (read off) f
 commanded_sound (Write off v) s f = stays_sound s (write off v) f
 commanded_sound (Notify c) s f = stays_sound s (notification c) f
 commanded_sound Unreadable s f = f
-
-pub obeyed_sound : (c : Command) (s t : State) (said : Said) → Sound s → Obeyed c s t said → Sound t
-obeyed_sound c s t said f e = subst SoundAt (ap (λ (k : Told). k.stand) e) (commanded_sound c s f)
 
 -- a command is obeyed whose call answers so, and which says what the answer says
 module _ (says : ℕ → List ℕ) (said : ℕ → Said) (same : (v : ℕ) → says v ≡ said_bytes (said v)) where

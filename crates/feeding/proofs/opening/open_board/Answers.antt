@@ -1,14 +1,16 @@
-use Rattle.std.proofs.Common.{rules, ◌≡◌, ◌≤◌, length, take, drop, ℕ, ◌+◌, ◌-◌, ◌*◌, ◌<◌, ◌/◌, ◌%◌, Bool, true, false, nat_eq, nat_lt, List, [], ◌∷◌, ◌++◌, slice_index_or, slice_set, bit_and, bit_or, Fits, w8, w32, w64, Bor, MutBor}
-use Rattle.limits.specs.Limits.{held_room}
-use Rattle.model.specs.Refusals.{answered}
-use Rattle.commands.specs.Grammar.{command_of, opening_of}
-use Rattle.replaying.specs.Replay.{kind_byte, kind_bytes, started, first_line}
+-- `opening::open_board` meets its contract: a board that is asked for, or no first line.
+use Rattle.std.proofs.Common.{◌∙◌, ap, ℕ, List}
+use Rattle.model.specs.Refusals.{Outcome, answer_number, answered}
+use Rattle.model.specs.Calls.{make}
+use Rattle.replaying.specs.Replay.{started, bad_start, first_line}
 use Rattle.feeding.proofs.opening.open_board.Goals as goal
 
--- src/opening.rt:39:1
 pub returns-in-Board : goal.returns-in-Board
-returns-in-Board c = ?
+unfolding first_line
+returns-in-Board c =
+    ap (λ (o : Outcome). started o) (c.make.ensures ∙ ap (make c.in-Board.n c.in-Board.m c.in-Board.b) (c.held.ensures ∙ c.kind_bytes-kinds.ensures.0))
+    ∙ ap (λ o. first_line o c.args.line.now) c.in-Board.ensures
 
--- src/opening.rt:39:1
 pub returns-in-Unreadable : goal.returns-in-Unreadable
-returns-in-Unreadable c = ?
+unfolding first_line started bad_start answered answer_number
+returns-in-Unreadable c = ap (λ o. first_line o c.args.line.now) c.in-Unreadable.ensures

@@ -1,43 +1,81 @@
-use Rattle.std.proofs.Common.{rules, ◌≡◌, [], ◌*◌, ◌≤◌, length, ℕ, ◌+◌, ◌-◌, ◌<◌, ◌/◌, ◌%◌, Bool, true, false, nat_eq, nat_lt, List, ◌∷◌, ◌++◌, slice_index_or, slice_set, bit_and, bit_or, Fits, w8, w32, w64, Bor, MutBor}
-use Rattle.std.proofs.Math.Bool.{So}
-use Rattle.limits.specs.Limits.{held_room}
-use Rattle.replaying.specs.Replay.{before, on}
-use Rattle.replaying.specs.Pieces.{line_length, begun_at, shown, paused, fit, printed_by, fed_of, feeding}
-use Rattle.feeding.specs.Engine.{Feeds}
+-- `pieces::feed_board` meets its contract: no line has begun; none ends; or the line that has begun ends, and the rest follows.
+use Rattle.std.proofs.Common.{◌≡◌, ◌∙◌, List, [], ◌∷◌, ◌++◌, ℕ, ◌+◌, ◌-◌, ◌≤◌, length, take, drop, sym, ap, arith}
+use native.Mathlib.Nat.{zero-add, min-le_left}
+use lib.ListN.{length-take}
+use lib.Seq.{length-take-le}
+use Rattle.replaying.specs.Replay.{on}
+use Rattle.replaying.specs.Pieces.{line_length, line_feeds, paused}
+use Rattle.replaying.proofs.Print.{written_length}
+use Rattle.replaying.proofs.Ends.{line_most, feeds_most}
+use Rattle.feeding.specs.Engine.{stand_in}
+use Rattle.feeding.proofs.Parts.{feeds_begun, begun_line, stand_in_line, one_feed, feeds_board}
 use Rattle.feeding.proofs.pieces.feed_board.Goals as goal
 
--- src/pieces.rt:26:9
+-- a line that has begun, ended by its line feed, is one line
+one : (begun input bytes : List ℕ) (count end : ℕ) → line_length begun ≡ length begun → end ≡ 0 + line_length (drop 0 input) →
+    take count bytes ≡ stand_in (begun ++ take end input) ++ (10 ∷ []) → line_feeds (take count bytes) ≡ 1
+one begun input bytes count end whole is e = ap line_feeds e ∙ one_feed _ (stand_in_line _ (begun_line begun input end whole is))
+
 pub feed_lines-requires : goal.feed_lines-requires
-feed_lines-requires c = ?
+feed_lines-requires c = omega (arith, c.requires.2, feeds_most c.args.input.now)
 
--- src/pieces.rt:30:9
 pub returns-then-end-input : goal.returns-then-end-input
-returns-then-end-input c = ?
+unfolding paused
+returns-then-end-input c =
+    let a = c.args in
+    let unended = sym (c.line_end-end.ensures ∙ zero-add _) ∙ c.if-end-input.true in
+    feeds_begun (on a.board.state) a.begun.now a.input.now a.output.now c.standing.result unended c.standing.ensures
 
--- src/pieces.rt:32:38
+-- a line ends in the piece, and its line feed is within it
+ended : (input : List ℕ) (end : ℕ) → end ≡ 0 + line_length (drop 0 input) → (end ≡ length input → ⊥) → end + 1 ≤ length input
+ended input end is some = omega (arith, line_most input)
+
 pub slice_bounds-with_line_feed-end : goal.slice_bounds-with_line_feed-end
-slice_bounds-with_line_feed-end c = ?
+slice_bounds-with_line_feed-end c =
+    sym (length-take-le c.line_end-end.result c.args.input.now (omega (arith, ended c.args.input.now _ c.line_end-end.ensures c.if-end-input.false)))
 
--- src/pieces.rt:33:9
 pub feed_lines-first-requires : goal.feed_lines-first-requires
-feed_lines-first-requires c = ?
+feed_lines-first-requires c =
+    let line = c.with_line_feed-line in
+    let is = one c.args.begun.now c.args.input.now line.result.bytes line.result.count _ c.requires.1 c.line_end-end.ensures line.ensures.0 in
+    omega (arith, c.requires.2, ended c.args.input.now _ c.line_end-end.ensures c.if-end-input.false, ap line_feeds c.held.ensures, is)
 
--- src/pieces.rt:37:30
 pub overflow_add-end : goal.overflow_add-end
-overflow_add-end c = ?
+overflow_add-end c = omega (arith, ended c.args.input.now _ c.line_end-end.ensures c.if-end-input.false, c.well_formed.1.1.0)
 
--- src/pieces.rt:37:23
 pub slice_bounds-feed_lines-count : goal.slice_bounds-feed_lines-count
-slice_bounds-feed_lines-count c = ?
+slice_bounds-feed_lines-count c = ended c.args.input.now _ c.line_end-end.ensures c.if-end-input.false
 
--- src/pieces.rt:37:23
 pub slice_bounds-feed_lines-start : goal.slice_bounds-feed_lines-start
-slice_bounds-feed_lines-start c = ?
+slice_bounds-feed_lines-start c = ended c.args.input.now _ c.line_end-end.ensures c.if-end-input.false
 
--- src/pieces.rt:37:5
 pub feed_lines-requires-2 : goal.feed_lines-requires-2
-feed_lines-requires-2 c = ?
+feed_lines-requires-2 c =
+    let input = c.args.input.now in
+    let from = c.line_end-end.result + 1 in
+    let rest = take (length input - from) (drop from input) in
+    let first = c.feed_lines-first.ensures in
+    let line = c.with_line_feed-line in
+    let short = min-le_left (length input - from) (length (drop from input)) in
+    omega (
+      arith,
+      c.requires.2,
+      ended input _ c.line_end-end.ensures c.if-end-input.false,
+      first.answers,
+      ap line_feeds c.held.ensures,
+      one c.args.begun.now input line.result.bytes line.result.count _ c.requires.1 c.line_end-end.ensures line.ensures.0,
+      feeds_most rest,
+      length-take (length input - from) (drop from input),
+      short,
+      written_length first.feeds.prints,
+    )
 
--- src/pieces.rt:21:1
 pub returns : goal.returns
-returns c = ?
+returns c =
+    let a = c.args in
+    let first = c.feed_lines-first in
+    let rest = c.feed_lines-2 in
+    feeds_board a.board.state a.begun.now a.input.now a.output.now first.new.output rest.new.output _ c.line_end-end.result
+    first.result rest.result c.requires.1 c.line_end-end.ensures c.if-end-input.false
+    (c.held.ensures ∙ c.with_line_feed-line.ensures.0)
+    first.ensures rest.ensures.feeds

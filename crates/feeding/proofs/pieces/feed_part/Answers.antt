@@ -1,31 +1,50 @@
-use Rattle.std.proofs.Common.{rules, ◌≡◌, [], ◌*◌, ◌≤◌, length, ℕ, ◌+◌, ◌-◌, ◌<◌, ◌/◌, ◌%◌, Bool, true, false, nat_eq, nat_lt, List, ◌∷◌, ◌++◌, slice_index_or, slice_set, bit_and, bit_or, Fits, w8, w32, w64, Bor, MutBor}
-use Rattle.std.proofs.Math.Bool.{So}
-use Rattle.limits.specs.Limits.{held_room}
-use Rattle.replaying.specs.Replay.{before, on}
-use Rattle.replaying.specs.Pieces.{line_length, begun_at, shown, paused, fit, printed_by, fed_of, feeding}
+-- `pieces::feed_part` meets its contract: a piece before the first line's end, on a board, or after the end.
+use Rattle.std.proofs.Common.{◌≡◌, List, ℕ, ◌≤◌, length, take, refl, sym, ap, subst, arith, ◌∙◌}
+use mathlib.Core.Bool.{So}
+use lib.Seq.{length-take-le}
+use Rattle.model.proofs.Sound.{sound_facts}
+use Rattle.replaying.specs.declared.Place.{Place}
+use Rattle.replaying.specs.declared.Replaying.{Replaying}
+use Rattle.replaying.specs.Pieces.{begun_at, stand_of, shown, board_sound, fit}
+use Rattle.feeding.specs.declared.progress.Progress.{Progress}
 use Rattle.feeding.specs.Engine.{Feeds}
+use Rattle.feeding.proofs.Parts.{fit_facts, feeds_ended}
 use Rattle.feeding.proofs.pieces.feed_part.Goals as goal
 
--- src/pieces.rt:65:9
+-- the place that was found is where the replay stands
+stood : (r : Replaying) (input out out' : List ℕ) (part : Progress) {p : Place} → r.place ≡ p →
+    Feeds (begun_at (stand_of p r.state) (take r.count r.begun)) input out out' 0 part → Feeds (shown r) input out out' 0 part
+unfolding shown
+stood r input out out' part e f = subst (λ (q : Place). Feeds (begun_at (stand_of q r.state) (take r.count r.begun)) input out out' 0 part) (sym e) f
+
 pub shared_ref_as_front-begun : goal.shared_ref_as_front-begun
-shared_ref_as_front-begun c = ?
+shared_ref_as_front-begun c = (fit_facts c.args.replay.now c.requires.0).0
 
--- src/pieces.rt:72:13
 pub invariant_of-board : goal.invariant_of-board
-invariant_of-board c = ?
+unfolding board_sound
+invariant_of-board c =
+    let r = c.args.replay.now in
+    record { sound = sound_facts _ (subst (λ (p : Place). So (board_sound p r.state)) c.in-On.is (fit_facts r c.requires.0).2) }
 
--- src/pieces.rt:72:13
 pub feed_board-requires : goal.feed_board-requires
-feed_board-requires c = ?
+feed_board-requires c =
+    let r = c.args.replay.now in
+    let facts = fit_facts r c.requires.0 in
+    let long : length (take r.count r.begun) ≡ r.count = length-take-le r.count r.begun (omega (arith, facts.0)) in
+    (omega (arith, long, facts.0), facts.1 ∙ sym long, c.requires.1)
 
--- src/pieces.rt:61:1
 pub returns-in-Before : goal.returns-in-Before
-returns-in-Before c = ?
+unfolding stand_of
+returns-in-Before c =
+    stood c.args.replay.now c.args.input.now c.args.output.now c.feed_first.new.output c.feed_first.result c.in-Before.is c.feed_first.ensures
 
--- src/pieces.rt:61:1
 pub returns-in-On : goal.returns-in-On
-returns-in-On c = ?
+unfolding stand_of
+returns-in-On c =
+    stood c.args.replay.now c.args.input.now c.args.output.now c.feed_board.new.output c.feed_board.result c.in-On.is c.feed_board.ensures
 
--- src/pieces.rt:61:1
 pub returns-in-Ended : goal.returns-in-Ended
-returns-in-Ended c = ?
+unfolding shown stand_of
+returns-in-Ended c =
+    feeds_ended (shown c.args.replay.now) c.args.input.now c.args.output.now 0 c.at_end.result
+    (ap (λ (p : Place). stand_of p c.args.replay.now.state) c.in-Ended.is) refl c.at_end.ensures
