@@ -9,6 +9,7 @@ use std::io::{Read, Write};
 // Replays what is read. The output has 20 bytes for each of the input, so that every piece is taken whole. An input that fails has
 // ended; nothing is printed after a first line that was refused, so nothing more is read then. Nothing says that an input ends, and a
 // proved loop has to: so the turns are counted, up to a number that no run reaches.
+#[tactic(auto, unfolding(replaying::specs::Pieces::printed_by, replaying::specs::Pieces::taken_values))]
 fn run(from: &mut impl Read, to: &mut impl Write) -> io::Result<()> {
     let mut input = [0u8; 16384];
     let mut output = [0u8; 327680];

@@ -1,4 +1,4 @@
-use Rattle.std.proofs.Common.{◌≡◌, ◌∙◌, ap, arith, ℕ, ◌+◌, ◌-◌, List, length, take}
+use Rattle.std.proofs.Common.{◌∙◌, ap, arith, ℕ, ◌+◌, ◌-◌, List, length, take}
 use lib.Seq.{sets, length-take-le}
 use Rattle.laws.proofs.Lists.{sets_part, take_most}
 use Rattle.limits.specs.Limits.{held_room}

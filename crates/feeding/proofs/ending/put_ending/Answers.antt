@@ -1,11 +1,10 @@
 -- `ending::put_ending` meets its contract: the replay's last lines, where a line has begun and where none has.
 use Rattle.std.proofs.Common.{◌≡◌, ◌∙◌, [], ◌∷◌, length, take, sym, ap, subst, arith}
-use mathlib.Core.Bool.{So}
 use lib.Seq.{length-take-le}
 use Rattle.replaying.specs.declared.Replaying.{Replaying}
-use Rattle.replaying.specs.Replay.{Stand, Replay, fed_all, closing}
+use Rattle.replaying.specs.Replay.{Stand, fed_all, closing}
 use Rattle.replaying.specs.Text.{Written}
-use Rattle.replaying.specs.Pieces.{stand_of, shown, fit}
+use Rattle.replaying.specs.Pieces.{stand_of, shown}
 use Rattle.replaying.proofs.Print.{written_then, written_length}
 use Rattle.obeying.specs.Obey.{SoundAt}
 use Rattle.feeding.proofs.Parts.{fit_facts}

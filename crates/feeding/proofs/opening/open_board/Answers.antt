@@ -1,5 +1,5 @@
 -- `opening::open_board` meets its contract: a board that is asked for, or no first line.
-use Rattle.std.proofs.Common.{◌∙◌, ap, ℕ, List}
+use Rattle.std.proofs.Common.{◌∙◌, ap}
 use Rattle.model.specs.Refusals.{Outcome, answer_number, answered}
 use Rattle.model.specs.Calls.{make}
 use Rattle.replaying.specs.Replay.{started, bad_start, first_line}

@@ -1,5 +1,5 @@
 -- `pieces::feed` meets its contract: as many bytes as there is room for are fed, and a replay that cannot go on is refused.
-use Rattle.std.proofs.Common.{◌≡◌, ◌∙◌, List, [], ◌∷◌, ℕ, ◌≤◌, ◌/◌, length, take, min, sym, ap, subst, arith}
+use Rattle.std.proofs.Common.{◌≡◌, ◌∙◌, List, [], ◌∷◌, ℕ, ◌/◌, length, take, sym, ap, subst, arith}
 use native.Mathlib.Nat.{zero-add, div-add-mod}
 use lib.Seq.{length-take-le}
 use Rattle.laws.proofs.Truth.{cond_so, cond_not}

@@ -1,12 +1,11 @@
 -- `pieces::feed_first` meets its contract: no line ends; the first line makes a board; or it is refused.
-use Rattle.std.proofs.Common.{◌≡◌, ◌∙◌, List, ◌++◌, ℕ, ◌+◌, ◌-◌, ◌≤◌, length, take, drop, refl, sym, subst, arith}
+use Rattle.std.proofs.Common.{◌≡◌, ◌∙◌, List, ◌++◌, ℕ, ◌+◌, ◌-◌, ◌≤◌, length, take, drop, sym, subst, arith}
 use native.Mathlib.Nat.{zero-add, min-le_left}
 use lib.ListN.{length-take}
 use lib.Seq.{length-take-le}
 use Rattle.limits.specs.Limits.{held_room}
 use Rattle.model.specs.Refusals.{number_of}
 use Rattle.replaying.specs.declared.Place.TheVariants.{Before}
-use Rattle.replaying.specs.declared.Said.TheVariants.{Refused}
 use Rattle.replaying.specs.Replay.{before, refused_line}
 use Rattle.replaying.specs.Text.{said_bytes, Written}
 use Rattle.replaying.specs.Pieces.{line_length, padded, paused}

@@ -1,11 +1,11 @@
 -- `pieces::feed_part` meets its contract: a piece before the first line's end, on a board, or after the end.
-use Rattle.std.proofs.Common.{◌≡◌, List, ℕ, ◌≤◌, length, take, refl, sym, ap, subst, arith, ◌∙◌}
+use Rattle.std.proofs.Common.{◌≡◌, List, ℕ, length, take, refl, sym, ap, subst, arith, ◌∙◌}
 use mathlib.Core.Bool.{So}
 use lib.Seq.{length-take-le}
 use Rattle.model.proofs.Sound.{sound_facts}
 use Rattle.replaying.specs.declared.Place.{Place}
 use Rattle.replaying.specs.declared.Replaying.{Replaying}
-use Rattle.replaying.specs.Pieces.{begun_at, stand_of, shown, board_sound, fit}
+use Rattle.replaying.specs.Pieces.{begun_at, stand_of, shown, board_sound}
 use Rattle.feeding.specs.declared.progress.Progress.{Progress}
 use Rattle.feeding.specs.Engine.{Feeds}
 use Rattle.feeding.proofs.Parts.{fit_facts, feeds_ended}
