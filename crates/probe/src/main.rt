@@ -1,29 +1,26 @@
 // `probe`: a state at hand, one command a line, each command one public call on that state. For testing, and for looking inside.
 #![tactic(auto)]
 
+mod asked;
+mod lines;
 mod obey;
-mod reader;
 mod reply;
 
-use crate::reader::Reader;
-use std::io::Read;
+use crate::lines::obey_lines;
+use std::io;
+use std::io::{BufReader, BufWriter};
 
-// An input that fails has ended. Nothing says that one ends, and a proved loop has to: so the turns are counted, up to a number
-// that no run reaches.
-fn main(rt: HostRuntime) {
-    let mut input = rt.stdin();
-    let mut output = rt.stdout();
-    let mut reader = Reader::new();
-    for _ in 0..u64::MAX {
-        if reader.is_closed() {
-            break;
-        }
-        let mut block = [0u8; 4096];
-        let n = input.read(&mut block).unwrap_or(0);
-        if n == 0 {
-            break;
-        }
-        reader = reader.taken(&mut output, &block[..n]);
+// How much is read at once, and how much is kept back until it is written.
+const BLOCK: usize = 4096;
+
+// A write that failed has closed the output: nothing more is read, and what is kept back is let go.
+fn main(rt: HostRuntime) -> io::Result<()> {
+    let alloc = rt.alloc();
+    let mut input = BufReader::with_capacity(alloc, BLOCK, rt.stdin())?;
+    let mut output = BufWriter::with_capacity(alloc, BLOCK, rt.stdout())?;
+    let mut line = Vec::with_capacity(alloc, limits::HELD_ROOM)?;
+    if obey_lines(&mut input, &mut output, &mut line).is_err() {
+        let _ = output.into_parts();
     }
-    reader.ended(&mut output);
+    Ok(())
 }

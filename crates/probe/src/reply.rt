@@ -1,98 +1,62 @@
-// The reply to a line: what a call answered, and what is printed of it.
-use model::{Answer, Answered, Mean, Refusal, State, Totals};
-use probing::text::Text;
+// The reply to a line: what is printed of what a call answered.
+use model::{Mean, Refusal, Totals};
+use std::io;
+use std::io::Write;
 
-// What is printed, and the state at hand afterwards.
-#[derive(Clone, Copy)]
-pub(crate) struct Reply {
-    pub(crate) text: Text,
-    pub(crate) state: State,
+fn refused<W: Write>(to: &mut W, why: Refusal) -> io::Result<()> {
+    let number = plic::number_of(why);
+    writeln!(to, "refused {number}")
 }
 
-pub(crate) fn silent(state: State) -> Reply {
-    Reply {
-        text: Text::empty(),
-        state: state,
+pub(crate) fn unreadable<W: Write>(to: &mut W) -> io::Result<()> {
+    refused(to, Refusal::Unreadable)
+}
+
+// A call whose value is not printed.
+pub(crate) fn silent<W: Write>(to: &mut W, answer: Result<u32, Refusal>) -> io::Result<()> {
+    match answer {
+        Ok(_) => Ok(()),
+        Err(why) => refused(to, why),
     }
 }
 
-fn refused(state: State, why: Refusal) -> Reply {
-    Reply {
-        text: Text::of(b"refused ")
-            .number(plic::number_of(why) as u64)
-            .with(b"\n"),
-        state: state,
+// A call whose value is printed after a label.
+pub(crate) fn value<W: Write>(
+    to: &mut W,
+    label: &str,
+    answer: Result<u32, Refusal>,
+) -> io::Result<()> {
+    match answer {
+        Ok(value) => writeln!(to, "{label} {value}"),
+        Err(why) => refused(to, why),
     }
 }
 
-pub(crate) fn unreadable(state: State) -> Reply {
-    refused(state, Refusal::Unreadable)
-}
-
-// What a call answered: its value after the label, and nothing where there is no label.
-pub(crate) fn answer(label: &[u8], got: Answered) -> Reply {
-    let given = got.answer;
-    let state = got.state;
-    match given {
-        Answer::Refused(why) => refused(state, why),
-        Answer::Value(v) => {
-            if label.len() == 0 {
-                return silent(state);
-            }
-            Reply {
-                text: Text::of(label).number(v as u64).with(b"\n"),
-                state: state,
-            }
-        }
+pub(crate) fn mean<W: Write>(to: &mut W, answer: Result<Mean, Refusal>) -> io::Result<()> {
+    match answer {
+        Ok(Mean { ticks, claims }) => writeln!(to, "M {ticks} {claims}"),
+        Err(why) => refused(to, why),
     }
 }
 
-pub(crate) fn mean(state: State) -> Reply {
-    let got = plic::mean(state);
-    let given = got.mean;
-    let next = got.state;
-    match given {
-        Mean::Refused(why) => refused(next, why),
-        Mean::Of(ticks, claims) => Reply {
-            text: Text::of(b"M ")
-                .number(ticks)
-                .with(b" ")
-                .number(claims as u64)
-                .with(b"\n"),
-            state: next,
-        },
+pub(crate) fn totals<W: Write>(to: &mut W, answer: Result<Totals, Refusal>) -> io::Result<()> {
+    match answer {
+        Ok(
+            Totals {
+                clock,
+                claims,
+                waited,
+                ages,
+            },
+        ) => writeln!(
+            to,
+            "clock {clock} claims {claims} waited {waited} open {ages}"
+        ),
+        Err(why) => refused(to, why),
     }
 }
 
-pub(crate) fn totals(state: State) -> Reply {
-    let got = plic::totals(state);
-    let given = got.totals;
-    let next = got.state;
-    match given {
-        Totals::Refused(why) => refused(next, why),
-        Totals::Of(clock, claims, waited, open) => {
-            let counted = Text::of(b"clock ")
-                .number(clock as u64)
-                .with(b" claims ")
-                .number(claims as u64);
-            Reply {
-                text: counted
-                    .with(b" waited ")
-                    .number(waited)
-                    .with(b" open ")
-                    .number(open)
-                    .with(b"\n"),
-                state: next,
-            }
-        }
-    }
-}
-
-pub(crate) fn is_sound(state: State) -> Reply {
-    Reply {
-        text: Text::of(b"S ")
-            .number(plic::is_sound(state) as u64)
-            .with(b"\n"),
-        state: state,
-    }
+pub(crate) fn sound<W: Write>(to: &mut W, is_sound: bool) -> io::Result<()> {
+    let digit = u8::from(is_sound);
+    writeln!(to, "S {digit}")
 }

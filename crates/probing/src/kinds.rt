@@ -1,44 +1,38 @@
 // The kind bytes of a `P`: letters, or pairs of hex digits.
-use crate::text::Text;
 use crate::words::hex_worth;
+use arrayvec::ArrayVec;
+use limits::LINE_ROOM;
 
-fn kind_of(letter: u8) -> u8 {
-    if letter == b'l' {
-        return 0;
+// As many as a line can hold.
+pub type Kinds = ArrayVec<u8, LINE_ROOM>;
+
+fn kind_of(letter: u8) -> Option<u8> {
+    match letter {
+        b'l' => Some(0),
+        b'e' => Some(1),
+        b'c' => Some(2),
+        _ => None,
     }
-    if letter == b'e' {
-        return 1;
-    }
-    2
 }
 
-// The kinds that the letters l, e, c from a place to the end of the line stand for.
-pub fn of_letters(line: &[u8], from: usize) -> Text {
-    let mut kinds = Text::empty();
-    for i in from..line.len() {
-        kinds = kinds.with(&[kind_of(line[i])]);
+// The kinds that the letters l, e, c stand for; none where other letters are there.
+pub fn of_letters(letters: &[u8]) -> Option<Kinds> {
+    let mut kinds = Kinds::new();
+    for letter in letters {
+        kinds.try_push(kind_of(*letter)?).ok()?;
     }
-    kinds
+    Some(kinds)
 }
 
-// The bytes that the pairs of hex digits from a place to the end of the line stand for; none where that is not what is there.
-pub fn of_pairs(line: &[u8], from: usize) -> Text {
-    let mut kinds = Text::empty();
-    let mut i = from;
-    while i < line.len() {
-        if line.len() - i < 2 {
-            return Text::empty();
-        }
-        let high = hex_worth(line[i]);
-        let low = hex_worth(line[i + 1]);
-        if 15 < high {
-            return Text::empty();
-        }
-        if 15 < low {
-            return Text::empty();
-        }
-        kinds = kinds.with(&[(high * 16 + low) as u8]);
-        i += 2;
+// The bytes that one or more pairs of hex digits stand for; none where that is not what is there.
+pub fn of_pairs(digits: &[u8]) -> Option<Kinds> {
+    let mut kinds = Kinds::new();
+    for pair in digits.chunks(2) {
+        let [high, low] = pair else {
+            return None;
+        };
+        let kind = hex_worth(*high)? * 16 + hex_worth(*low)?;
+        kinds.try_push(kind).ok()?;
     }
-    kinds
+    if kinds.is_empty() { None } else { Some(kinds) }
 }

@@ -1,37 +1,24 @@
 // Looking: `V` shows every field that is not zero.
-use crate::fields::{FIELDS, Field, field_at, last_index, with_name};
-use crate::out::Out;
-use crate::text::Text;
+use crate::fields::{FIELDS, Field};
 use crate::values::value_of;
 use model::State;
+use std::io;
 use std::io::Write;
 
-// A field's value at an index, unless it is zero.
-fn show<W: Write>(to: &mut W, out: Out, state: State, field: Field, i: u64) -> Out {
-    let v = value_of(state, field, i as usize);
-    if v == 0 {
-        return out;
+// The values of one field that are not zero, by rising index.
+fn show<W: Write>(to: &mut W, state: &State, field: Field) -> io::Result<()> {
+    for i in 0..field.room() {
+        let value = value_of(state, field, i);
+        if value != 0 {
+            writeln!(to, "V {field} {i} {value}")?;
+        }
     }
-    let named = with_name(Text::of(b"V "), field);
-    out.line(
-        to,
-        named.with(b" ").number(i).with(b" ").number(v).with(b"\n"),
-    )
+    Ok(())
 }
 
-fn show_field<W: Write>(to: &mut W, out: Out, state: State, field: Field) -> Out {
-    let last = last_index(field);
-    let mut shown = out;
-    for i in 0..=last {
-        shown = show(to, shown, state, field, i);
+pub fn look<W: Write>(to: &mut W, state: &State) -> io::Result<()> {
+    for field in &FIELDS {
+        show(to, state, *field)?;
     }
-    shown
-}
-
-pub fn look<W: Write>(to: &mut W, state: State, out: Out) -> Out {
-    let mut shown = out;
-    for k in 0..FIELDS {
-        shown = show_field(to, shown, state, field_at(k));
-    }
-    shown.line(to, Text::of(b"V end\n"))
+    writeln!(to, "V end")
 }

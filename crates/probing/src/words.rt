@@ -1,89 +1,42 @@
-// Words of a line: where they end, whether two are the same, and what a number or a hex digit is worth.
-ghost use Rattle.std.specs.Prelude.{◌+◌, ◌-◌, ◌≤◌, length};
+// Words of a line: where the first one ends, the number that a word gives, and what a hex digit is worth.
+ghost use Rattle.std.specs.Prelude.{◌<◌, IfSome};
 
-use crate::widths::wide;
-
-// The largest number of 32 bits.
-pub const LAST_32: u64 = 4294967295;
-
-// A number and the place past the byte that ends its word; or nothing, where there is no such number.
-#[derive(Clone, Copy)]
-pub enum Value {
-    Is(u64, usize),
-    Nothing,
+// What stands before the first space of a line, and what stands after it.
+pub fn split_first_word(line: &[u8]) -> Option<(&[u8], &[u8])> {
+    let end = line.iter().position(|byte| *byte == b' ')?;
+    Some((&line[..end], &line[end + 1..]))
 }
 
-// The place of the first byte b from a place on, or the end: at or after the place where that is within the bytes.
-pub fn next_of(bytes: &[u8], from: usize, b: u8) -> usize
-    ensures { (result ≤ length bytes.now) × (from ≤ result + (from - length bytes.now)) }
+// What a decimal digit is worth.
+fn digit_worth(b: u8) -> Option<u8>
+    ensures { IfSome result (λ worth. worth < 10) }
 {
-    for i in from..bytes.len() {
-        if bytes[i] == b {
-            return i;
-        }
+    match b {
+        b'0'..=b'9' => Some(b - b'0'),
+        _ => None,
     }
-    bytes.len()
 }
 
-pub fn same(a: &[u8], b: &[u8]) -> bool {
-    if a.len() != b.len() {
-        return false;
+// What a hex digit, a capital, is worth.
+pub fn hex_worth(b: u8) -> Option<u8>
+    ensures { IfSome result (λ worth. worth < 16) }
+{
+    match b {
+        b'A'..=b'F' => Some(b - b'A' + 10),
+        _ => digit_worth(b),
     }
-    for i in 0..a.len() {
-        if a[i] != b[i] {
-            return false;
-        }
-    }
-    true
 }
 
-// What a decimal digit is worth, and 16 for any other byte.
-fn digit_worth(b: u8) -> u64 {
-    if b < b'0' {
-        return 16;
+// The number of a word: digits alone, with no needless leading zero, and at most 64 bits.
+pub fn number(word: &[u8]) -> Option<u64> {
+    if word.is_empty() || (word.len() > 1 && word.starts_with(b"0")) {
+        return None;
     }
-    if b'9' < b {
-        return 16;
+    let mut value: u64 = 0;
+    for digit in word {
+        value = value
+            .checked_mul(10)?
+            .checked_add(u64::from(digit_worth(*digit)?))?;
     }
-    wide(b - b'0')
-}
-
-// What a hex digit, a capital, is worth, and 16 for any other byte.
-pub fn hex_worth(b: u8) -> u64 {
-    if b < b'A' {
-        return digit_worth(b);
-    }
-    if b'F' < b {
-        return 16;
-    }
-    wide(b - b'A') + 10
-}
-
-// The number at a place: no needless leading zero, at most `limit`. It ends at a space or at the end of the line.
-pub fn number_at(line: &[u8], at: usize, limit: u64) -> Value {
-    if line.len() <= at {
-        return Value::Nothing;
-    }
-    let end = next_of(line, at, b' ');
-    if line[at] == b'0' && end - at != 1 {
-        return Value::Nothing;
-    }
-    let mut v: u64 = 0;
-    for i in at..end {
-        let d = digit_worth(line[i]);
-        if 9 < d {
-            return Value::Nothing;
-        }
-        if limit < d {
-            return Value::Nothing;
-        }
-        if (limit - d) / 10 < v {
-            return Value::Nothing;
-        }
-        v = v * 10 + d;
-    }
-    if end == at {
-        return Value::Nothing;
-    }
-    Value::Is(v, end + 1)
+    Some(value)
 }
