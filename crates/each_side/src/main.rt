@@ -48,7 +48,11 @@ fn last_source(rt: &impl Print) {
 
 // What else stands on each side of a line: a shape, the steps, a context, a per mille.
 fn other_ends(rt: &impl Print) {
-    show(rt, "make 128 sources", plic::make(128, 1, 1, &[0; 128]).answer);
+    show(
+        rt,
+        "make 128 sources",
+        plic::make(128, 1, 1, &[0; 128]).answer,
+    );
     show(rt, "make kind 3", plic::make(1, 1, 1, &[3]).answer);
     let mut board = small_board();
     board.steps = 4294967294;
@@ -57,7 +61,11 @@ fn other_ends(rt: &impl Print) {
     show(rt, "notification 1", plic::notification(&board, 1));
     show(rt, "notification 2", plic::notification(&board, 2));
     show(rt, "percentile 0", plic::by_claim(&board, 0));
-    show(rt, "percentile 1000, no claims", plic::by_time(&board, 1000));
+    show(
+        rt,
+        "percentile 1000, no claims",
+        plic::by_time(&board, 1000),
+    );
     board.shape.bits = 6;
     show(rt, "six bits", plic::read(&mut board, 0));
 }

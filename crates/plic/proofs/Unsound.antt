@@ -10,8 +10,8 @@ use Rattle.model.specs.Refusals.{Ground, answer_number, answered, mean_values, a
 use Rattle.model.specs.Sound.{sound}
 use Rattle.model.specs.Calls.{Call, line, advance, read, write, notification, mean, by_claim, by_time, totals, values_of, respond}
 use Rattle.model.proofs.Calls.{refused_as}
-use Rattle.steps.proofs.Refusing.{Owns, line_owns, advance_owns, read_owns, write_owns, notification_owns, mean_owns, claim_owns, time_owns, totals_owns}
-use Rattle.steps.proofs.Refusing.{unsound_number, says_unsound}
+use Rattle.steps.proofs.Refusing.{Owns, unsound_number, says_unsound}
+use Rattle.steps.proofs.Refusing.{line_owns, advance_owns, read_owns, write_owns, notification_owns, mean_owns, claim_owns, time_owns, totals_owns}
 
 -- every call looks at this first
 owns : (a : Call) (s : State) → (own : List Ground) × Owns a s own
@@ -26,7 +26,8 @@ owns (by_time p) s = (_, time_owns s p)
 owns totals s = (_, totals_owns s)
 
 module _ (s : State) where
-  pub unsound : (a : Call) (x : Result ℕ Refusal) → length (values_of a s) ≡ 1 → x ≡ Err NotSound → sound s ≡ false → answered x s ≡ respond a s
+  pub unsound : (a : Call) (x : Result ℕ Refusal) → length (values_of a s) ≡ 1 → x ≡ Err NotSound → sound s ≡ false →
+      answered x s ≡ respond a s
   unsound a x single is e = ap (λ y. answered y s) is ∙ says_unsound (owns a s).1 single e
 
   pub mean_unsound : (x : Result Mean Refusal) → x ≡ Err NotSound → sound s ≡ false → averaged x s ≡ respond mean s

@@ -8,7 +8,8 @@ ghost use Rattle.steps.specs.declared.board.Board.{Board};
 use model::{Refusal, State};
 use steps::Board;
 
-// A call on the board of a state, which stays as the call leaves it; refusal 2 where the state is not sound.
+// A call on the board of a state, which goes on as the call leaves it; refusal 2 where the state is not sound. Where every answer on
+// that board is the answer of a call `a` of the definitions, so is this one.
 #[tactic(auto, using(crate::proofs::Unsound::unsound))]
 fn on_board<F: FnOnce(&mut Board) -> Result<u32, Refusal>>(
     state: &mut State,
@@ -16,7 +17,8 @@ fn on_board<F: FnOnce(&mut Board) -> Result<u32, Refusal>>(
 ) -> Result<u32, Refusal>
     requires { F.IsAlwaysCallable call }
     ensures { (a : Call) → length (values_of a state.old) ≡ 1 →
-        ((b : Board) (r : _) (b' : Board) → b.state ≡ state.old → FnOnceReturnsAtMut F.FnOnce call b r b' → answered r b'.state ≡ respond a state.old) →
+        ((b : Board) (r : _) (b' : Board) → b.state ≡ state.old → FnOnceReturnsAtMut F.FnOnce call b r b' →
+        answered r b'.state ≡ respond a state.old) →
         answered result state.new ≡ respond a state.old }
 {
     let mut board = Board::new(*state)?;
@@ -25,7 +27,7 @@ fn on_board<F: FnOnce(&mut Board) -> Result<u32, Refusal>>(
     answer
 }
 
-// Sets a source's line to a level. Returns 0, with the state after it, or a refusal (2, 3, 6), with the state as it was.
+// Sets a source's line to a level. Returns 0, and the state is that after it; or a refusal (2, 3, 6), and the state is as it was.
 #[tactic(auto, unfolding(model::specs::Calls::values_of))]
 pub fn line(state: &mut State, source: u32, level: bool) -> Result<u32, Refusal>
     ensures { answered result state.new ≡ respond (line source level) state.old }
@@ -33,7 +35,7 @@ pub fn line(state: &mut State, source: u32, level: bool) -> Result<u32, Refusal>
     on_board(state, |board| board.line(source, level))
 }
 
-// Advances the clock. Returns 0, with the state after it, or a refusal (2, 3, 8), with the state as it was.
+// Advances the clock. Returns 0, and the state is that after it; or a refusal (2, 3, 8), and the state is as it was.
 #[tactic(auto, unfolding(model::specs::Calls::values_of))]
 pub fn advance(state: &mut State, ticks: u32) -> Result<u32, Refusal>
     ensures { answered result state.new ≡ respond (advance ticks) state.old }
@@ -41,8 +43,8 @@ pub fn advance(state: &mut State, ticks: u32) -> Result<u32, Refusal>
     on_board(state, |board| board.advance(ticks))
 }
 
-// Reads a register; a read of a claim register claims. Returns the value, with the state after it, or a refusal (2, 3, 4, 5), with the
-// state as it was.
+// Reads a register; a read of a claim register claims. Returns the value, and the state is that after it; or a refusal (2, 3, 4, 5), and
+// the state is as it was.
 #[tactic(auto, unfolding(model::specs::Calls::values_of))]
 pub fn read(state: &mut State, offset: u32) -> Result<u32, Refusal>
     ensures { answered result state.new ≡ respond (read offset) state.old }
@@ -50,8 +52,8 @@ pub fn read(state: &mut State, offset: u32) -> Result<u32, Refusal>
     on_board(state, |board| board.read(offset))
 }
 
-// Writes a register; a write to a claim register completes. Returns 0, with the state after it, or a refusal (2, 3, 4, 5), with the
-// state as it was.
+// Writes a register; a write to a claim register completes. Returns 0, and the state is that after it; or a refusal (2, 3, 4, 5), and
+// the state is as it was.
 #[tactic(auto, unfolding(model::specs::Calls::values_of))]
 pub fn write(state: &mut State, offset: u32, value: u32) -> Result<u32, Refusal>
     ensures { answered result state.new ≡ respond (write offset value) state.old }

@@ -55,7 +55,7 @@ pub fn zero() -> State
 }
 
 // Whether every kind byte is at most 2.
-fn are_kinds_known(kinds: &[u8]) -> bool
+fn kinds_known(kinds: &[u8]) -> bool
     ensures { result ≡ all_to (λ i. leb (get_or kinds.now i 0) 2) (length kinds.now) }
 {
     kinds.iter().all(|kind| *kind <= 2)
@@ -76,7 +76,7 @@ fn kinds_by_source(kinds: &[u8]) -> [u8; SOURCE_ROOM]
 fn shape_of(n: u32, m: u32, b: u32, kinds: &[u8]) -> Result<Shape, Refusal>
     ensures { result ≡ (if within_limits n m b && kinds_for n kinds.now then Ok (shape_of n m b kinds.now) else Err Refusal.BadShape) }
 {
-    if !within_limits(n, m, b) || kinds.len() != n as usize || !are_kinds_known(kinds) {
+    if !within_limits(n, m, b) || kinds.len() != n as usize || !kinds_known(kinds) {
         return Err(Refusal::BadShape);
     }
     Ok(Shape {

@@ -22,7 +22,9 @@ pub struct Board {
 }
 
 impl Board {
-    // A state as a board, or refusal 2 where it is not sound.
+    // A state as a board, or refusal 2 where it is not sound. It is inlined, since a result of that size is cleared and copied, which
+    // costs more than the check (measured).
+    #[inline(always)]
     #[tactic(auto, using(model::proofs::Sound::sound_facts))]
     pub fn new(state: State) -> Result<Board, Refusal>
         ensures board { IfOk result (λ b. b.state ≡ state) }

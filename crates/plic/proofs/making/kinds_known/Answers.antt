@@ -1,4 +1,4 @@
--- `making::are_kinds_known` meets its contract: the test of every byte is the test at every index.
+-- `making::kinds_known` meets its contract: the test of every byte is the test at every index.
 -- Assumes nothing.
 use Rattle.std.proofs.Common.{rules, tests, sym, ◌≡◌, ℕ, ◌≤◌, ◌<◌, Bool, true, false, List, leb, length, get_or, arith}
 use Rattle.std.proofs.lemmas.Iterator.{cases_from_all, YieldsList-from_slice}
@@ -7,9 +7,10 @@ use Rattle.std.specs.List.{AllWithin, HoldsAt}
 use borrow.Author.Tests.{le-leb, lt-leb}
 use Rattle.laws.specs.Fold.{all_to}
 use Rattle.laws.proofs.Fold.{all_from_each, all_fails}
-use Rattle.plic.proofs.making.are_kinds_known.Goals as goal
+use Rattle.plic.proofs.making.kinds_known.Goals as goal
 
-known : (kinds : List ℕ) (r : Bool) → MatchBool r (AllWithin (λ k. k ≤ 2) kinds 0 (length kinds)) ((i : ℕ) × (i < length kinds) × HoldsAt (λ k. 2 < k) kinds i) →
+known : (kinds : List ℕ) (r : Bool) →
+    MatchBool r (AllWithin (λ k. k ≤ 2) kinds 0 (length kinds)) ((i : ℕ) × (i < length kinds) × HoldsAt (λ k. 2 < k) kinds i) →
     r ≡ all_to (λ i. leb (get_or kinds i 0) 2) (length kinds)
 known kinds true each = sym (all_from_each _ _ (λ i l. le-leb _ _ (each i 0 (omega arith) l)))
 known kinds false some = sym (all_fails _ _ some.0 some.1 (lt-leb _ _ (some.2 0)))
