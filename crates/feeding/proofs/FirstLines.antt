@@ -8,7 +8,7 @@ use lib.ListN.{take, drop}
 use borrow.Author.Tests.{eqb-true}
 use Rattle.limits.specs.Limits.{held_room}
 use Rattle.laws.proofs.Truth.{cond_not, cond_elim}
-use Rattle.std.specs.Prelude.{Result, Ok, Err}
+use Rattle.std.specs.Prelude.{Option, Some, None, Result, Ok, Err}
 use Rattle.model.specs.declared.Answered.{Answered}
 use Rattle.model.specs.declared.Refusal.{Refusal}
 use Rattle.model.specs.Refusals.{number_of, answer_number, answered}
@@ -16,7 +16,6 @@ use Rattle.model.specs.Calls.{make}
 use Rattle.model.specs.Sound.{Sound}
 use Rattle.model.proofs.Make.{made_sound}
 use Rattle.commands.specs.declared.Opening.{Opening}
-use Rattle.commands.specs.declared.Opening.TheVariants as opening
 use Rattle.commands.specs.Grammar.{command_of, opening_of}
 use Rattle.replaying.specs.Replay.{Stand, before, on, ended, Told, refused_line, kind_bytes, started, bad_start, first_line, answer}
 use Rattle.replaying.proofs.Through.{cut_answer}
@@ -27,10 +26,10 @@ made_stand : (n m b : ℕ) (kinds : List ℕ) → SoundAt (started (make n m b k
 unfolding started
 made_stand n m b kinds = cond_elim SoundAt (eqb (make n m b kinds).number 0) (λ t. (made_sound n m b kinds (eqb-true _ 0 t)).1) (λ _. tt)
 
-first_line_sound : (o : Opening) (bytes : List ℕ) → SoundAt (first_line o bytes).stand
+first_line_sound : (o : Option Opening) (bytes : List ℕ) → SoundAt (first_line o bytes).stand
 unfolding first_line bad_start
-first_line_sound (opening.Board n m b k) bytes = made_stand n m b (kind_bytes (drop k bytes))
-first_line_sound opening.Unreadable bytes = tt
+first_line_sound (Some o) bytes = made_stand o.sources o.contexts o.bits (kind_bytes (drop o.kinds bytes))
+first_line_sound None bytes = tt
 
 first_sound : (bytes : List ℕ) → SoundAt (answer before bytes).stand
 unfolding answer

@@ -41,11 +41,16 @@ pub(crate) fn open_board(line: &[u8]) -> Answered
     ensures { started (answered result.answer result.state) ≡ first_line (opening_of (command_of line.now)) line.now }
 {
     match commands::parse_opening(line) {
-        commands::Opening::Board(n, m, b, from) => {
-            let kinds = kind_bytes(line, from);
-            plic::make(n, m, b, kinds.held())
+        Some(asked) => {
+            let kinds = kind_bytes(line, asked.kinds);
+            plic::make(
+                asked.sources,
+                asked.contexts,
+                asked.bits,
+                kinds.held(),
+            )
         }
-        commands::Opening::Unreadable => Answered {
+        None => Answered {
             answer: Err(Refusal::Unreadable),
             state: plic::zero(),
         },

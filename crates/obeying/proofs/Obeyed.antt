@@ -48,7 +48,7 @@ module _ (says : ℕ → List ℕ) (a : Call) (s : State) where
 -- whatever the command, a sound board stays sound
 pub commanded_sound : (c : Command) (s : State) → Sound s → SoundAt (commanded c s).stand
 unfolding commanded goes_on
-commanded_sound (Make n m b k) s f = f
+commanded_sound (Make o) s f = f
 commanded_sound (Line i v) s f = stays_sound s (line i v) f
 commanded_sound (Advance n) s f = stays_sound s (advance n) f
 commanded_sound (Read off) s f = stays_sound s (read off) f

@@ -9,8 +9,8 @@ use Rattle.model.specs.Calls.{Call, line, advance, read, write, notification, ma
 use Rattle.model.specs.Run.{run, past, Accounted}
 use Rattle.commands.specs.declared.Command.{Command}
 use Rattle.commands.specs.declared.Command.TheVariants.{Make, Line, Advance, Read, Write, Notify, Unreadable}
+use Rattle.std.specs.Prelude.{Option, Some, None}
 use Rattle.commands.specs.declared.Opening.{Opening}
-use Rattle.commands.specs.declared.Opening.TheVariants as opening
 use Rattle.commands.specs.Grammar.{command_of, opening_of}
 use Rattle.replaying.specs.Replay.{Stand, before, on, ended, kind_bytes, fed_all, fresh}
 
@@ -24,7 +24,7 @@ lines_in input = lines_from [] input
 
 -- the call that a line after the first asks for; an unreadable one asks for none, nor does a later `P`
 unfoldable pub call_of : Command → List Call
-call_of (Make n c b k) = []
+call_of (Make o) = []
 call_of (Line i v) = line i v ∷ []
 call_of (Advance n) = advance n ∷ []
 call_of (Read off) = read off ∷ []
@@ -38,9 +38,9 @@ calls_in [] = []
 calls_in (l ∷ ls) = calls_in ls ++ call_of (command_of l)
 
 -- what a first line comes to: "any other first line is unreadable"
-unfoldable pub making_by : Opening → List ℕ → Outcome
-making_by (opening.Board n c b k) bytes = make n c b (kind_bytes (drop k bytes))
-making_by opening.Unreadable bytes = record { number = number_of refusal.Unreadable; values = []; state = zero_state }
+unfoldable pub making_by : Option Opening → List ℕ → Outcome
+making_by (Some o) bytes = make o.sources o.contexts o.bits (kind_bytes (drop o.kinds bytes))
+making_by None bytes = record { number = number_of refusal.Unreadable; values = []; state = zero_state }
 
 unfoldable pub making : List ℕ → Outcome
 making bytes = making_by (opening_of (command_of bytes)) bytes

@@ -5,12 +5,12 @@ use Rattle.model.specs.Calls.{make}
 use Rattle.replaying.specs.Replay.{started, bad_start, first_line}
 use Rattle.feeding.proofs.opening.open_board.Goals as goal
 
-pub returns-in-Board : goal.returns-in-Board
+pub returns-in-Some : goal.returns-in-Some
 unfolding first_line
-returns-in-Board c =
-    ap (λ (o : Outcome). started o) (c.make.ensures ∙ ap (make c.in-Board.n c.in-Board.m c.in-Board.b) (c.held.ensures ∙ c.kind_bytes-kinds.ensures.0))
-    ∙ ap (λ o. first_line o c.args.line.now) c.in-Board.ensures
+returns-in-Some c =
+    ap (λ (o : Outcome). started o) (c.make.ensures ∙ ap (make c.in-Some.asked.sources c.in-Some.asked.contexts c.in-Some.asked.bits) (c.held.ensures ∙ c.kind_bytes-kinds.ensures.0))
+    ∙ ap (λ o. first_line o c.args.line.now) c.in-Some.ensures
 
-pub returns-in-Unreadable : goal.returns-in-Unreadable
+pub returns-in-None : goal.returns-in-None
 unfolding first_line started bad_start answered answer_number
-returns-in-Unreadable c = ap (λ o. first_line o c.args.line.now) c.in-Unreadable.ensures
+returns-in-None c = ap (λ o. first_line o c.args.line.now) c.in-None.ensures

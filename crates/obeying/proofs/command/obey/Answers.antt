@@ -31,6 +31,6 @@ unfolding commanded said_bytes
 returns-in-Make c =
     let s = c.args.board.now.state in
     ⊎_elim
-    (λ m. told_unreadable m.4 s refl _ c.number_of.ensures)
+    (λ m. told_unreadable m.1 s refl _ c.number_of.ensures)
     (λ e. told_unreadable e s refl _ c.number_of.ensures)
     c.in-Make.is
