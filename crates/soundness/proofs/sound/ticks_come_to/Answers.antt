@@ -14,4 +14,6 @@ more f i n left total e short h =
 pub returns-in_default : goal.returns-in_default
 returns-in_default c =
     let l = c.loop-bucket in
-    sym (more (λ k. get_or c.args.ticks.now k 0) l.bucket-index 33 l.left c.args.total l.invariant (let short = c.in_default.ensures in omega (arith, short)) (omega arith))
+    let short = c.in_default.ensures in
+    sym (more (λ k. get_or c.args.ticks.now k 0) l.bucket-index 33 l.left c.args.total l.invariant (omega (arith, short))
+    (omega arith))
