@@ -1,4 +1,7 @@
 // The fields of a state as the language names them: their order, their names, and how many numbers each has.
+ghost use Rattle.std.specs.Prelude.{◌+◌, ◌<◌, ◌≤◌, length};
+ghost use Rattle.limits.specs.Limits.{source_room, enable_room};
+
 use limits::{BUCKET_ROOM, CONTEXT_ROOM, ENABLE_ROOM, SOURCE_ROOM};
 use std::fmt;
 
@@ -45,7 +48,9 @@ pub static FIELDS: [Field; 17] = [
 ];
 
 impl Field {
-    pub fn name(self) -> &'static str {
+    pub fn name(self) -> &'static str
+        ensures { 0 < length result.now }
+    {
         match self {
             Field::Sources => "sources",
             Field::Contexts => "contexts",
@@ -68,7 +73,9 @@ impl Field {
     }
 
     // How many numbers a state has of the field.
-    pub fn room(self) -> usize {
+    pub fn room(self) -> usize
+        ensures { (0 < result) × (result ≤ source_room + enable_room) }
+    {
         match self {
             Field::Sources | Field::Contexts | Field::Bits | Field::Clock | Field::Steps => 1,
             Field::Enable => ENABLE_ROOM,

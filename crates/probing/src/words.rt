@@ -1,8 +1,10 @@
 // Words of a line: where the first one ends, the number that a word gives, and what a hex digit is worth.
-ghost use Rattle.std.specs.Prelude.{◌<◌, IfSome};
+ghost use Rattle.std.specs.Prelude.{◌≡◌, ◌+◌, ◌<◌, length, IfSome};
 
 // What stands before the first space of a line, and what stands after it.
-pub fn split_first_word(line: &[u8]) -> Option<(&[u8], &[u8])> {
+pub fn split_first_word(line: &[u8]) -> Option<(&[u8], &[u8])>
+    ensures { IfSome result (λ parts. length parts.0.now + 1 + length parts.1.now ≡ length line.now) }
+{
     let end = line.iter().position(|byte| *byte == b' ')?;
     Some((&line[..end], &line[end + 1..]))
 }
@@ -28,7 +30,9 @@ pub fn hex_worth(b: u8) -> Option<u8>
 }
 
 // The number of a word: digits alone, with no needless leading zero, and at most 64 bits.
-pub fn number(word: &[u8]) -> Option<u64> {
+pub fn number(word: &[u8]) -> Option<u64>
+    ensures { IfSome result (λ _. 0 < length word.now) }
+{
     if word.is_empty() || (word.len() > 1 && word.starts_with(b"0")) {
         return None;
     }
