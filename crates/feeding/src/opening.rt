@@ -7,7 +7,7 @@ ghost use Rattle.replaying.specs.Replay.{kind_byte, kind_bytes, started, first_l
 
 use crate::buffer::Buffer;
 use limits::HELD_ROOM;
-use model::{Answered, Refusal};
+use model::{Answered, Kind, Refusal};
 
 // A kind's letter as its byte.
 #[tactic(auto, unfolding(replaying::specs::Replay::kind_byte))]
@@ -15,9 +15,9 @@ fn kind_byte(letter: u8) -> u8
     ensures { result ≡ kind_byte letter }
 {
     match letter {
-        b'l' => 0,
-        b'e' => 1,
-        _ => 2,
+        b'l' => Kind::Level as u8,
+        b'e' => Kind::Edge as u8,
+        _ => Kind::Counting as u8,
     }
 }
 
@@ -43,12 +43,7 @@ pub(crate) fn open_board(line: &[u8]) -> Answered
     match commands::parse_opening(line) {
         Some(asked) => {
             let kinds = kind_bytes(line, asked.kinds);
-            plic::make(
-                asked.sources,
-                asked.contexts,
-                asked.bits,
-                kinds.held(),
-            )
+            plic::make(asked.sources, asked.contexts, asked.bits, kinds.held())
         }
         None => Answered {
             answer: Err(Refusal::Unreadable),

@@ -2,16 +2,16 @@
 ghost use Rattle.std.specs.Prelude.{◌≡◌};
 ghost use Rattle.model.specs.Life.{level_changed, edge_changed, line_changed, completed};
 
-use model::Request;
+use model::{Kind, Request, Stage};
 
 // A level source: idle with the line high becomes pending at once.
 #[tactic(auto, unfolding(model::specs::Life::level_changed, model::specs::Life::raised, model::specs::Life::line_at, model::specs::Waits::is_idle))]
 fn level_changed(clock: u32, level: bool, r: Request) -> Request
     ensures { result ≡ level_changed clock level r }
 {
-    if r.stage == 0 && level {
+    if r.stage == Stage::Idle as u8 && level {
         return Request {
-            stage: 1,
+            stage: Stage::Pending as u8,
             line: level,
             start: clock,
             ..r
@@ -26,15 +26,15 @@ fn edge_changed(kind: u8, clock: u32, level: bool, r: Request) -> Request
     ensures { result ≡ edge_changed kind clock level r }
 {
     if !r.line && level {
-        if r.stage == 0 {
+        if r.stage == Stage::Idle as u8 {
             return Request {
-                stage: 1,
+                stage: Stage::Pending as u8,
                 line: level,
                 start: clock,
                 ..r
             };
         }
-        if kind == 2 {
+        if kind == Kind::Counting as u8 {
             return Request {
                 line: level,
                 extra: r.extra.saturating_add(1),
@@ -50,7 +50,7 @@ fn edge_changed(kind: u8, clock: u32, level: bool, r: Request) -> Request
 pub fn line_changed(kind: u8, clock: u32, level: bool, r: Request) -> Request
     ensures { result ≡ line_changed kind clock level r }
 {
-    if kind == 0 {
+    if kind == Kind::Level as u8 {
         return level_changed(clock, level, r);
     }
     edge_changed(kind, clock, level, r)
@@ -61,23 +61,23 @@ pub fn line_changed(kind: u8, clock: u32, level: bool, r: Request) -> Request
 pub fn completed(kind: u8, clock: u32, r: Request) -> Request
     ensures { result ≡ completed kind clock r }
 {
-    if kind == 0 && r.line {
+    if kind == Kind::Level as u8 && r.line {
         return Request {
-            stage: 1,
+            stage: Stage::Pending as u8,
             start: clock,
             ..r
         };
     }
-    if kind == 2 && 0 < r.extra {
+    if kind == Kind::Counting as u8 && 0 < r.extra {
         return Request {
-            stage: 1,
+            stage: Stage::Pending as u8,
             extra: r.extra - 1,
             start: clock,
             ..r
         };
     }
     Request {
-        stage: 0,
+        stage: Stage::Idle as u8,
         start: 0,
         ..r
     }

@@ -1,4 +1,4 @@
-// The requests of the sources, the only place that knows how a stage is held: 0 idle, 1 pending, 2 in service. Leaves: the requests that
+// The requests of the sources, the only place that knows how a stage is held. Leaves: the requests that
 // are lent and numbers only.
 ghost use Rattle.std.specs.Prelude.{◌≡◌, ℕ, ◌+◌, ◌*◌, ◌<◌};
 ghost use Rattle.limits.specs.Limits.{source_room, word_room};
@@ -6,7 +6,7 @@ ghost use Rattle.laws.specs.Bits.{packed};
 ghost use Rattle.model.specs.Board.{request, set_request};
 ghost use Rattle.model.specs.Waits.{is_pending, is_in_service};
 
-use model::{Request, Requests};
+use model::{Request, Requests, Stage};
 
 // Whether source i is pending.
 #[tactic(auto, unfolding(model::specs::Waits::is_pending, model::specs::Board::request))]
@@ -14,7 +14,7 @@ pub fn is_pending(requests: &Requests, i: usize) -> bool
     requires { i < source_room }
     ensures { result ≡ is_pending (request requests.now i) }
 {
-    requests.stage[i] == 1
+    requests.stage[i] == Stage::Pending as u8
 }
 
 // Whether source i is in service.
@@ -23,7 +23,7 @@ pub fn is_in_service(requests: &Requests, i: usize) -> bool
     requires { i < source_room }
     ensures { result ≡ is_in_service (request requests.now i) }
 {
-    requests.stage[i] == 2
+    requests.stage[i] == Stage::InService as u8
 }
 
 // The request of source i.

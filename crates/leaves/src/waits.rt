@@ -4,7 +4,7 @@ ghost use Rattle.limits.specs.Limits.{bucket_room};
 ghost use Rattle.model.specs.Waits.{bucket_of, upper_end, open_age};
 
 use limits::BUCKET_ROOM;
-use model::Request;
+use model::{Request, Stage};
 
 // The upper ends of the buckets: 2^k - 1 at every k.
 const UPPER_ENDS: [u32; BUCKET_ROOM] = [
@@ -34,7 +34,7 @@ pub fn bucket_of(wait: u32) -> usize
 pub fn open_age(clock: u32, r: Request) -> u32
     ensures { result ≡ open_age clock r }
 {
-    if r.stage == 1 {
+    if r.stage == Stage::Pending as u8 {
         clock.saturating_sub(r.start)
     } else {
         0

@@ -3,8 +3,25 @@
 
 use limits::{BUCKET_ROOM, CONTEXT_ROOM, ENABLE_ROOM, SOURCE_ROOM};
 
-// What the board contains: N sources, C contexts, b priority bits, and a kind byte for each source
-// (0 level, 1 edge that drops extra edges, 2 edge that counts them). Number 0 is no source and keeps zero.
+// What a source's kind byte says: level, edge that drops extra edges, edge that counts them. A state that is handed in may hold
+// other bytes; a sound one holds none.
+#[derive(Clone, Copy, Debug, PartialEq, Eq)]
+pub enum Kind {
+    Level = 0,
+    Edge = 1,
+    Counting = 2,
+}
+
+// What the stage of a source's request says. Here too a state that is handed in may hold other bytes.
+#[derive(Clone, Copy, Debug, PartialEq, Eq)]
+pub enum Stage {
+    Idle = 0,
+    Pending = 1,
+    InService = 2,
+}
+
+// What the board contains: N sources, C contexts, b priority bits, and the byte of its kind for each source. Number 0 is no source and
+// keeps zero.
 #[derive(Clone, Copy)]
 pub struct Shape {
     pub sources: u32,
@@ -21,8 +38,7 @@ pub struct Settings {
     pub threshold: [u8; CONTEXT_ROOM],
 }
 
-// The life of one source's request: its stage (0 idle, 1 pending, 2 in service), its line, the extra edges of a counting
-// source, and the clock when it became pending.
+// The life of one source's request: its stage, its line, the extra edges of a counting source, and the clock when it became pending.
 #[derive(Clone, Copy)]
 pub struct Request {
     pub stage: u8,

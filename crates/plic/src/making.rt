@@ -7,7 +7,7 @@ ghost use Rattle.model.specs.Refusals.{answered};
 ghost use Rattle.model.specs.Calls.{make};
 
 use limits::{BUCKET_ROOM, CONTEXT_ROOM, ENABLE_ROOM, SOURCE_ROOM};
-use model::{Answered, Buckets, Counts, Refusal, Requests, Settings, Shape, State};
+use model::{Answered, Buckets, Counts, Kind, Refusal, Requests, Settings, Shape, State};
 use soundness::within_limits;
 
 // A state that is zero throughout but for its shape.
@@ -58,7 +58,7 @@ pub fn zero() -> State
 fn kinds_known(kinds: &[u8]) -> bool
     ensures { result ≡ all_to (λ i. leb (get_or kinds.now i 0) 2) (length kinds.now) }
 {
-    kinds.iter().all(|kind| *kind <= 2)
+    kinds.iter().all(|kind| *kind <= Kind::Counting as u8)
 }
 
 // The kinds by source: byte i is that of source i + 1.

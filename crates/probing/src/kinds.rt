@@ -2,15 +2,16 @@
 use crate::words::hex_worth;
 use arrayvec::ArrayVec;
 use limits::LINE_ROOM;
+use model::Kind;
 
 // As many as a line can hold.
 pub type Kinds = ArrayVec<u8, LINE_ROOM>;
 
-fn kind_of(letter: u8) -> Option<u8> {
+fn kind_of(letter: u8) -> Option<Kind> {
     match letter {
-        b'l' => Some(0),
-        b'e' => Some(1),
-        b'c' => Some(2),
+        b'l' => Some(Kind::Level),
+        b'e' => Some(Kind::Edge),
+        b'c' => Some(Kind::Counting),
         _ => None,
     }
 }
@@ -19,7 +20,7 @@ fn kind_of(letter: u8) -> Option<u8> {
 pub fn of_letters(letters: &[u8]) -> Option<Kinds> {
     let mut kinds = Kinds::new();
     for letter in letters {
-        kinds.try_push(kind_of(*letter)?).ok()?;
+        kinds.try_push(kind_of(*letter)? as u8).ok()?;
     }
     Some(kinds)
 }

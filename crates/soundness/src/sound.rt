@@ -17,7 +17,7 @@ use limits::{
     BUCKET_ROOM, CONTEXT_ROOM, LAST_SOURCE, MOST_BITS, MOST_CONTEXTS, MOST_EDGES, SOURCE_ROOM,
     WORD_ROOM,
 };
-use model::{Settings, State};
+use model::{Kind, Settings, Stage, State};
 
 // Whether everything that a state holds of source i is zero.
 fn is_zero_at(state: &State, i: usize) -> bool
@@ -26,9 +26,9 @@ fn is_zero_at(state: &State, i: usize) -> bool
         (source_claims state.now.counts i) (source_waited state.now.counts i) (request state.now.requests i) }
 {
     let r = request_of(&state.requests, i);
-    (state.shape.kind[i] == 0)
+    (state.shape.kind[i] == Kind::Level as u8)
         & (state.settings.priority[i] == 0)
-        & (r.stage == 0)
+        & (r.stage == Stage::Idle as u8)
         & !r.line
         & (r.extra == 0)
         & (r.start == 0)
@@ -44,19 +44,19 @@ fn is_source_sound(state: &State, i: usize) -> bool
     let kind = state.shape.kind[i];
     let here = (1 <= i) & (i <= state.shape.sources as usize);
     let r = request_of(&state.requests, i);
-    let idle = r.stage == 0;
+    let idle = r.stage == Stage::Idle as u8;
     let age = open_age(state.clock, r);
     let waited = state.counts.waited[i];
-    (kind <= 2)
+    (kind <= Kind::Counting as u8)
         & (here | is_zero_at(state, i))
         & (state.settings.priority[i] <= highest(state.shape.bits))
-        & (r.stage <= 2)
+        & (r.stage <= Stage::InService as u8)
         & (r.start <= state.clock)
-        & ((r.stage == 1) | (r.start == 0))
+        & ((r.stage == Stage::Pending as u8) | (r.start == 0))
         & (r.extra <= MOST_EDGES)
-        & ((kind == 2) | (r.extra == 0))
+        & ((kind == Kind::Counting as u8) | (r.extra == 0))
         & (!idle | (r.extra == 0))
-        & !((kind == 0) & idle & r.line)
+        & !((kind == Kind::Level as u8) & idle & r.line)
         & (u64::from(waited) + u64::from(age) <= u64::from(state.clock))
 }
 

@@ -8,7 +8,7 @@ ghost use Rattle.steps.specs.Arrays.{Ready};
 use leaves::arbiter::winner;
 use leaves::stages::{put_request, request_of};
 use leaves::waits::bucket_of;
-use model::{Buckets, Counts, Request, State};
+use model::{Buckets, Counts, Request, Stage, State};
 
 // A wait of w ticks is booked with source i and with its bucket.
 #[tactic(auto, unfolding(model::specs::Waits::counted, model::specs::Waits::booked))]
@@ -41,7 +41,7 @@ pub(crate) fn claim(state: &mut State, c: usize) -> usize
     let r = request_of(&state.requests, w);
     let wait = state.clock - r.start;
     let served = Request {
-        stage: 2,
+        stage: Stage::InService as u8,
         start: 0,
         ..r
     };
