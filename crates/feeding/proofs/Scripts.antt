@@ -8,7 +8,7 @@ use native.Mathlib.Omega.{arith}
 use lib.ListN.{length, get_or, take, drop, replicate, length-replicate}
 use lib.Seq.{sets, sets-eq, take_all, take-append_seam}
 use Rattle.std.proofs.lemmas.Bool.{cond-true}
-use Rattle.std.specs.Prelude.{Result, Ok}
+use Rattle.std.specs.Prelude.{Result, Ok, Err}
 use Rattle.model.specs.declared.Refusal.{Refusal}
 use Rattle.model.specs.declared.Refusal.TheVariants.{NotSound}
 use Rattle.model.specs.Refusals.{number_of, answer_number, answer_values}
@@ -27,6 +27,12 @@ stored : (text bytes : List ℕ) → length text ≤ length bytes → take (leng
 stored text bytes h =
     ap (take (length text)) (sets-eq text bytes 0 (omega (arith, h, zero-add (length text))))
     ∙ take-append_seam text (drop (0 + length text) bytes)
+
+-- how many were printed is the second of the values
+printed_value : (x : Result Fed Refusal) → printed_by x ≡ get_or (taken_values x) 1 0
+unfolding printed_by taken_values
+printed_value (Ok f) = refl
+printed_value (Err r) = refl
 
 -- a piece that is taken whole, fed to a replay that can go on
 module _ (done piece output output' : List ℕ) (x : Result Fed Refusal) (next : Replaying) (room : length piece ≤ length output / 20)
@@ -48,9 +54,9 @@ module _ (done piece output output' : List ℕ) (x : Result Fed Refusal) (next :
   replay_then = ap (λ (f : Feeding). f.replay) fed ∙ held_then
 
   printed_then : printed_by x ≤ length output → take (printed_by x) output' ≡ after.printed
-  unfolding fed_of accepted printed_by
+  unfolding fed_of accepted
   printed_then fits =
-      let count : printed_by x ≡ length after.printed = ap (λ (f : Feeding). get_or f.values 1 0) fed in
+      let count : printed_by x ≡ length after.printed = printed_value x ∙ ap (λ (f : Feeding). get_or f.values 1 0) fed in
       let bytes : output' ≡ sets output 0 after.printed = ap (λ (f : Feeding). f.output) fed in
       (λ i. take (count i) (bytes i)) ∙ stored after.printed output (omega (arith, fits, count))
 

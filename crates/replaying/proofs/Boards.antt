@@ -10,6 +10,7 @@ use native.Mathlib.Omega.{arith}
 use lib.Dec.{eqb}
 use lib.ListN.{drop}
 use borrow.Author.Tests.{eqb-true}
+use Rattle.std.specs.Prelude.{Option, Some, None}
 use Rattle.laws.proofs.Truth.{dichotomy, cond_so, cond_not}
 use Rattle.model.specs.declared.State.{State}
 use Rattle.model.specs.Calls.{Call, respond}
@@ -17,7 +18,6 @@ use Rattle.model.specs.Run.{Past, run, past, claims_in, ticks_in, every, ages_op
 use Rattle.model.proofs.Runs.{accounted}
 use Rattle.commands.specs.declared.Command.{Command}
 use Rattle.commands.specs.declared.Command.TheVariants.{Make, Line, Advance, Read, Write, Notify, Unreadable}
-use Rattle.std.specs.Prelude.{Option, Some, None}
 use Rattle.commands.specs.declared.Opening.{Opening}
 use Rattle.commands.specs.Grammar.{command_of, opening_of}
 use Rattle.replaying.specs.Replay.{Stand, before, on, ended, goes_on, commanded, kind_bytes, started, bad_start, first_line, answer, Replay, line_ends, fed, fed_all, last_in, closing, totals_line, finished, fresh, replay}

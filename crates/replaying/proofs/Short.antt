@@ -6,13 +6,13 @@ use Prim.Native.Nat.{ℕ, zero, suc, ◌+◌, ◌/◌, ◌%◌, ◌≤◌}
 use native.Mathlib.Omega.{arith}
 use lib.Dec.{ltb, eqb}
 use lib.ListN.{length, get_or, drop, length-append}
+use Rattle.std.specs.Prelude.{Option, Some, None}
 use Rattle.laws.proofs.Truth.{cond_elim}
 use Rattle.model.specs.declared.State.{State}
 use Rattle.model.specs.Refusals.{Outcome}
 use Rattle.model.specs.Calls.{line, advance, read, write, notification, totals, values_of, respond, make}
 use Rattle.commands.specs.declared.Command.{Command}
 use Rattle.commands.specs.declared.Command.TheVariants.{Make, Line, Advance, Read, Write, Notify, Unreadable}
-use Rattle.std.specs.Prelude.{Option, Some, None}
 use Rattle.commands.specs.declared.Opening.{Opening}
 use Rattle.commands.specs.Grammar.{command_of, opening_of}
 use Rattle.replaying.specs.Replay.{digits_in, digits, refused_line, value_line, Stand, before, on, ended, goes_on, silent, commanded, kind_bytes, started, bad_start, first_line, answer, totals_line, Told, Replay, line_ends, last_in, closing, finished}

@@ -7,6 +7,7 @@ use Prim.Native.Nat.{ℕ}
 use lib.Dec.{eqb}
 use lib.ListN.{drop}
 use borrow.Author.Tests.{eqb-true}
+use Rattle.std.specs.Prelude.{Option, Some, None}
 use Rattle.laws.proofs.Truth.{cond_elim}
 use Rattle.model.specs.declared.State.{State}
 use Rattle.model.specs.declared.Refusal.TheVariants as refusal
@@ -17,7 +18,6 @@ use Rattle.model.proofs.Calls.{stays_sound}
 use Rattle.model.proofs.Make.{made_sound}
 use Rattle.model.proofs.Quick.{quick, quick_is}
 use Rattle.commands.specs.Grammar.{command_of, opening_of}
-use Rattle.std.specs.Prelude.{Option, Some, None}
 use Rattle.commands.specs.declared.Opening.{Opening}
 use Rattle.commands.specs.declared.Command.{Command}
 use Rattle.commands.specs.declared.Command.TheVariants.{Make, Line, Advance, Read, Write, Notify, Unreadable}

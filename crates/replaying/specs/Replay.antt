@@ -1,13 +1,12 @@
 -- Document 01, "Replay": what each line of the input prints and does, and the whole input, byte by byte.
 -- Assumes nothing.
-use Rattle.std.specs.Prelude.{cond, List, [], ◌∷◌, ◌++◌, ℕ, zero, suc, ◌+◌, ◌/◌, ◌%◌, ltb, eqb, get_or, drop}
+use Rattle.std.specs.Prelude.{cond, List, [], ◌∷◌, ◌++◌, ℕ, zero, suc, ◌+◌, ◌/◌, ◌%◌, ltb, eqb, get_or, drop, map, Option, Some, None}
 use Rattle.model.specs.declared.State.{State}
 use Rattle.model.specs.declared.Refusal.TheVariants as refusal
 use Rattle.model.specs.Refusals.{number_of, Outcome}
 use Rattle.model.specs.Calls.{line, advance, read, write, notification, totals, values_of, respond, make}
 use Rattle.commands.specs.declared.Command.{Command}
 use Rattle.commands.specs.declared.Command.TheVariants.{Make, Line, Advance, Read, Write, Notify, Unreadable}
-use Rattle.std.specs.Prelude.{Option, Some, None}
 use Rattle.commands.specs.declared.Opening.{Opening}
 use Rattle.commands.specs.Grammar.{command_of, opening_of}
 
@@ -70,9 +69,8 @@ commanded Unreadable s = record { stand = on s; prints = refused_line (number_of
 unfoldable pub kind_byte : ℕ → ℕ
 kind_byte b = cond (eqb b 108) 0 (cond (eqb b 101) 1 2)
 
-unfoldable pub kind_bytes : List ℕ → List ℕ
-kind_bytes [] = []
-kind_bytes (b ∷ bs) = kind_byte b ∷ kind_bytes bs
+abbrev pub kind_bytes : List ℕ → List ℕ
+kind_bytes letters = map kind_byte letters
 
 -- "a refused or missing first line prints that (11 for empty input) and ends without the last line"
 unfoldable pub started : Outcome → Told

@@ -1,6 +1,6 @@
 -- A script as the run that it is: its lines, the board that the first of them makes, and the calls that the later ones ask for.
 -- Assumes nothing.
-use Rattle.std.specs.Prelude.{◌≡◌, cond, List, [], ◌∷◌, ◌++◌, ℕ, eqb, drop}
+use Rattle.std.specs.Prelude.{◌≡◌, cond, List, [], ◌∷◌, ◌++◌, ℕ, eqb, drop, Option, Some, None}
 use Rattle.model.specs.declared.State.{State}
 use Rattle.model.specs.declared.Refusal.TheVariants as refusal
 use Rattle.model.specs.Board.{zero_state}
@@ -9,7 +9,6 @@ use Rattle.model.specs.Calls.{Call, line, advance, read, write, notification, ma
 use Rattle.model.specs.Run.{run, past, Accounted}
 use Rattle.commands.specs.declared.Command.{Command}
 use Rattle.commands.specs.declared.Command.TheVariants.{Make, Line, Advance, Read, Write, Notify, Unreadable}
-use Rattle.std.specs.Prelude.{Option, Some, None}
 use Rattle.commands.specs.declared.Opening.{Opening}
 use Rattle.commands.specs.Grammar.{command_of, opening_of}
 use Rattle.replaying.specs.Replay.{Stand, before, on, ended, kind_bytes, fed_all, fresh}

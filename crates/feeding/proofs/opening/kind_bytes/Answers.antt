@@ -8,7 +8,6 @@ use Rattle.replaying.proofs.KindLetters.{kinds_more}
 use Rattle.feeding.proofs.opening.kind_bytes.Goals as goal
 
 pub loop-i-init : goal.loop-i-init
-unfolding kind_bytes
 loop-i-init c = (omega arith, refl, omega arith, length-replicate {A = ℕ} held_room 0)
 
 pub bounds-bytes-count : goal.bounds-bytes-count
