@@ -7,7 +7,7 @@ use lib.Dec.{eqb}
 use lib.ListN.{take, drop}
 use borrow.Author.Tests.{eqb-true}
 use Rattle.limits.specs.Limits.{held_room}
-use Rattle.laws.proofs.Truth.{cond_not, cond_elim}
+use Rattle.std.proofs.lemmas.Bool.{cond-false, cond_both}
 use Rattle.std.specs.Prelude.{Option, Some, None, Result, Ok, Err}
 use Rattle.model.specs.declared.Answered.{Answered}
 use Rattle.model.specs.declared.Refusal.{Refusal}
@@ -24,7 +24,7 @@ use Rattle.obeying.proofs.Obeyed.{not_zero, commanded_sound}
 
 made_stand : (n m b : ℕ) (kinds : List ℕ) → SoundAt (started (make n m b kinds)).stand
 unfolding started
-made_stand n m b kinds = cond_elim SoundAt (eqb (make n m b kinds).number 0) (λ t. (made_sound n m b kinds (eqb-true _ 0 t)).1) (λ _. tt)
+made_stand n m b kinds = cond_both (eqb (make n m b kinds).number 0) _ _ SoundAt (λ t. (made_sound n m b kinds (eqb-true _ 0 t)).1) (λ _. tt)
 
 first_line_sound : (o : Option Opening) (bytes : List ℕ) → SoundAt (first_line o bytes).stand
 unfolding first_line bad_start
@@ -55,7 +55,7 @@ module _ (l line : List ℕ) (made : Answered) (cut : line ≡ take held_room l)
   unfolding started answered answer_number
   told_unmade why e =
       told_first ∙ ap (λ (a : Result ℕ Refusal). started (answered a made.state)) e
-      ∙ (λ i. record { stand = cond_not (on made.state) ended (not_zero why) i; prints = cond_not [] (refused_line (number_of why)) (not_zero why) i })
+      ∙ (λ i. record { stand = cond-false _ (on made.state) ended (not_zero why) i; prints = cond-false _ [] (refused_line (number_of why)) (not_zero why) i })
 
   -- and the board is sound
   pub made_is_sound : (v : ℕ) → made.answer ≡ Ok v → Sound made.state

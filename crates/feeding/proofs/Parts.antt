@@ -11,9 +11,9 @@ use lib.Dec.{leb, ltb, eqb}
 use lib.ListN.{length, take, drop, length-append, length-drop}
 use lib.Seq.{sets, take-length, take-append_seam}
 use borrow.Author.Tests.{le-leb, leb-true, eq-eqb, eqb-true, ltb-true}
+use Rattle.std.proofs.lemmas.Bool.{and_parts, cond_both}
 use Rattle.limits.specs.Limits.{line_room, held_room}
 use Rattle.laws.specs.Fold.{all_of}
-use Rattle.laws.proofs.Truth.{and_left, and_right, cond_elim}
 use Rattle.model.specs.declared.State.{State}
 use Rattle.model.specs.declared.Answered.{Answered}
 use Rattle.commands.specs.declared.Command.TheVariants.{Unreadable}
@@ -41,16 +41,16 @@ fit_board r h e =
 pub fit_facts : (r : Replaying) → So (fit r) → (r.count ≤ held_room) × (line_length (take r.count r.begun) ≡ r.count) × So (board_sound r.place r.state)
 unfolding fit all_of
 fit_facts r t =
-    let rest = and_right (leb r.count held_room) _ t in (
-      leb-true _ _ (and_left (leb r.count held_room) _ t),
-      eqb-true _ _ (and_left (eqb (line_length (take r.count r.begun)) r.count) _ rest),
-      and_left (board_sound r.place r.state) true (and_right (eqb (line_length (take r.count r.begun)) r.count) _ rest),
+    let rest = (and_parts (leb r.count held_room) _ t).1 in (
+      leb-true _ _ (and_parts (leb r.count held_room) _ t).0,
+      eqb-true _ _ (and_parts (eqb (line_length (take r.count r.begun)) r.count) _ rest).0,
+      (and_parts (board_sound r.place r.state) true (and_parts (eqb (line_length (take r.count r.begun)) r.count) _ rest).1).0,
     )
 
 -- an empty line may stand for one that is too long
 pub stand_in_answer : (s : State) (l : List ℕ) → answer (on s) (stand_in l) ≡ answer (on s) l
 unfolding stand_in
-stand_in_answer s l = cond_elim (λ (k : List ℕ). answer (on s) k ≡ answer (on s) l) (ltb line_room (length l))
+stand_in_answer s l = cond_both (ltb line_room (length l)) _ _ (λ (k : List ℕ). answer (on s) k ≡ answer (on s) l)
     (λ t. unreadable_answer (on s) [] l empty (too_long l (ltb-true line_room (length l) t)))
     (λ _. refl)
   where
@@ -59,7 +59,7 @@ stand_in_answer s l = cond_elim (λ (k : List ℕ). answer (on s) k ≡ answer (
 
 pub stand_in_line : (l : List ℕ) → line_length l ≡ length l → line_length (stand_in l) ≡ length (stand_in l)
 unfolding stand_in line_length
-stand_in_line l e = cond_elim (λ (k : List ℕ). line_length k ≡ length k) (ltb line_room (length l)) (λ _. refl) (λ _. e)
+stand_in_line l e = cond_both (ltb line_room (length l)) _ _ (λ (k : List ℕ). line_length k ≡ length k) (λ _. refl) (λ _. e)
 
 -- one line, ended, on a board
 pub one_line : (s : State) (m out out' : List ℕ) (p : Progress) → line_length m ≡ length m → FeedsBoard s (m ++ (10 ∷ [])) out out' 0 p →

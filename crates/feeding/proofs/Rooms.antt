@@ -12,8 +12,8 @@ use lib.Dec.{ltb}
 use lib.ListN.{length, take, set, replicate, length-append, length-take, length-replicate}
 use lib.Seq.{sets, length-sets, take_all, take-suc-set, take-append-add, length-take-le}
 use borrow.Author.Tests.{ltb-true, ltb-false, lt-ltb, le-ltb}
+use Rattle.std.proofs.lemmas.Bool.{cond-true, cond-false, cases_Bool}
 use Rattle.limits.specs.Limits.{line_room, held_room}
-use Rattle.laws.proofs.Truth.{cond_so, cond_not, dichotomy}
 use Rattle.laws.proofs.Lists.{sets_append}
 use Rattle.replaying.specs.Pieces.{padded}
 use Rattle.replaying.proofs.InPieces.{padded_held}
@@ -63,7 +63,7 @@ pub ended_full : (l bytes : List ℕ) (held : ℕ) → bytes ≡ padded l → le
 unfolding stand_in
 ended_full l bytes held e f g =
     let long : line_room < length l = omega (arith, f, length-take held_room l, min-le_right held_room (length l)) in
-    let none = ap (λ (k : ℕ). take k (padded l)) g ∙ sym (cond_so [] l (lt-ltb line_room (length l) long)) in
+    let none = ap (λ (k : ℕ). take k (padded l)) g ∙ sym (cond-true _ [] l (lt-ltb line_room (length l) long)) in
     (ended_at l bytes held e (omega (arith, g)) none, omega (arith, g))
 
 pub ended_part : (l bytes : List ℕ) (held : ℕ) → bytes ≡ padded l → (length (take held_room l) ≡ held_room → ⊥) → held ≡ length (take held_room l) →
@@ -72,14 +72,14 @@ unfolding stand_in
 ended_part l bytes held e f g =
     let less : length (take held_room l) < held_room = omega (arith, f, length-take held_room l, min-le_left held_room (length l)) in
     let short : length l ≤ line_room = short_of l less in
-    let whole = ap (λ (k : ℕ). take k (padded l)) g ∙ padded_held l ∙ take_all held_room l (omega (arith, short)) ∙ sym (cond_not [] l (le-ltb line_room (length l) short)) in
+    let whole = ap (λ (k : ℕ). take k (padded l)) g ∙ padded_held l ∙ take_all held_room l (omega (arith, short)) ∙ sym (cond-false _ [] l (le-ltb line_room (length l) short)) in
     (ended_at l bytes held e (omega (arith, g, less)) whole, omega (arith, g, less))
   where
     short_of : (l : List ℕ) → length (take held_room l) < held_room → length l ≤ line_room
     short_of l h = ⊎_elim
         (λ (t : So (ltb line_room (length l))). absurd (omega (arith, h, length-take-le held_room l (omega (arith, ltb-true line_room (length l) t)))))
         (λ t. ltb-false line_room (length l) t)
-        (dichotomy (ltb line_room (length l)))
+        (cases_Bool (ltb line_room (length l)))
 
 -- the line that is joined, as it is lent
 pub joined_cut : (l : List ℕ) (h : Buffer) → h ≡ record { bytes = padded l; count = length (take held_room l) } → take h.count h.bytes ≡ take held_room l

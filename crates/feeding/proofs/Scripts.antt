@@ -7,7 +7,7 @@ use native.Mathlib.Nat.{zero-add, div-add-mod, mod-lt}
 use native.Mathlib.Omega.{arith}
 use lib.ListN.{length, get_or, take, drop, replicate, length-replicate}
 use lib.Seq.{sets, sets-eq, take_all, take-append_seam}
-use Rattle.laws.proofs.Truth.{cond_so}
+use Rattle.std.proofs.lemmas.Bool.{cond-true}
 use Rattle.std.specs.Prelude.{Result, Ok, Err}
 use Rattle.model.specs.declared.Refusal.{Refusal}
 use Rattle.model.specs.declared.Refusal.TheVariants.{NotSound}
@@ -43,7 +43,7 @@ module _ (done piece output output' : List ℕ) (x : Result Fed Refusal) (next :
   fed : fed_of x next output' ≡ accepted after (length piece) output
   unfolding feeding part_of
   fed =
-      promise ∙ cond_so _ _ (replay_fit done)
+      promise ∙ cond-true _ _ _ (replay_fit done)
       ∙ ap (λ (l : List ℕ). accepted (fed_all (shown (paused_of (fed_all fresh done))) l) (length l) output) (take_all (length output / 20) piece room)
 
   held_then : paused_of after ≡ paused_of (fed_all fresh (done ++ piece))
@@ -124,7 +124,7 @@ module _ (done piece : List ℕ) where
   answered : fed_of answer (paused_of then) (sets wide 0 then.printed) ≡ feeding (paused_of (fed_all fresh done)) piece wide
   unfolding fed_of accepted feeding part_of answer_number taken_values
   answered = sym (
-      cond_so _ _ (replay_fit done)
+      cond-true _ _ _ (replay_fit done)
       ∙ ap (λ (l : List ℕ). accepted (fed_all (shown (paused_of (fed_all fresh done))) l) (length l) wide) (take_all (length wide / 20) piece wide_room)
       )
 
@@ -151,7 +151,7 @@ pub finishable : (done : List ℕ) →
     ending_of (record { answer = Ok (length (ending r)); bytes = sets (replicate 160 0) 0 (ending r) }) ≡ finishing r
 unfolding ending_of finishing answer_number answer_values
 finishable done = λ i. record {
-  number = sym (cond_so 0 (number_of NotSound) (replay_fit done)) i;
+  number = sym (cond-true _ 0 (number_of NotSound) (replay_fit done)) i;
   values = length (ending (paused_of (fed_all fresh done))) ∷ [];
   bytes = sets (replicate 160 0) 0 (ending (paused_of (fed_all fresh done)));
 }

@@ -1,7 +1,7 @@
 -- The laws of the folds of specs/Fold: what each means at an index, and that a change at one index changes a sum by as much.
 -- Assumes nothing.
 use mathlib.Core.Path.{◌≡◌, ◌∙◌, refl, sym, ap, ap₂, subst}
-use mathlib.Core.Bool.{Bool, true, false, cond, ◌&&◌, ◌||◌, So, and-true, and_assoc}
+use mathlib.Core.Bool.{Bool, true, false, cond, ◌&&◌, ◌||◌, So}
 use mathlib.Core.Logic.{◌⊎◌, ⊎_elim, ◌≢◌}
 use mathlib.Core.List.{List, [], ◌∷◌}
 use lib.ListN.{get_or}
@@ -11,8 +11,8 @@ use native.Mathlib.Numerals.{add-one}
 use native.Mathlib.Omega.{arith}
 use lib.Dec.{ltb, eqb}
 use borrow.Author.Tests.{ltb-true, ltb-false, eqb-true, eqb-false}
+use Rattle.std.proofs.lemmas.Bool.{cases_Bool, both_ways, false_from_ne_true, and_from, and_parts, or_left, or_right, or_cases, cond-true, cond-false}
 use Rattle.laws.specs.Fold.{sum_to, all_to, all_of, any_to, first_to, best, First, Best}
-use Rattle.laws.proofs.Truth.{dichotomy, not_so, so_not, and_intro, and_left, and_right, or_left, or_right, or_cases, cond_so, cond_not}
 
 -- below one more: the last index, or below it
 pub last_or_below : {i n : ℕ} → i < suc n → (i ≡ n) ⊎ (i < n)
@@ -71,7 +71,7 @@ sum_scale m f (suc n) = ap (λ (x : ℕ). x + m * f n) (sum_scale m f n) ∙ sym
 -- an index is the one that changed, or another
 pub same_or_other : (P : ℕ → Type 0) (i j : ℕ) → P i → (j ≢ i → P j) → P j
 same_or_other P i j p f =
-    ⊎_elim (λ (t : So (eqb j i)). subst P (sym (eqb-true j i t)) p) (λ t. f (eqb-false j i t)) (dichotomy (eqb j i))
+    ⊎_elim (λ (t : So (eqb j i)). subst P (sym (eqb-true j i t)) p) (λ t. f (eqb-false j i t)) (cases_Bool (eqb j i))
 
 -- where f and g differ at i alone, their sums differ by as much
 pub sum_change : (f g : ℕ → ℕ) (n i : ℕ) → i < n → ((j : ℕ) → j ≢ i → f j ≡ g j) → sum_to g n + f i ≡ sum_to f n + g i
@@ -98,12 +98,12 @@ pub all_at : (f : ℕ → Bool) (n : ℕ) → So (all_to f n) → (i : ℕ) → 
 unfolding all_to
 all_at f zero h i k = absurd (not-suc-le-zero k)
 all_at f (suc n) h i k =
-    up_to (λ i. So (f i)) n (all_at f n (and_left (all_to f n) (f n) h)) (and_right (all_to f n) (f n) h) i k
+    up_to (λ i. So (f i)) n (all_at f n (and_parts (all_to f n) (f n) h).0) (and_parts (all_to f n) (f n) h).1 i k
 
 pub all_from_each : (f : ℕ → Bool) (n : ℕ) → ((i : ℕ) → i < n → So (f i)) → So (all_to f n)
 unfolding all_to
 all_from_each f zero h = refl
-all_from_each f (suc n) h = and_intro (all_from_each f n (λ i k. h i (omega arith))) (h n (omega arith))
+all_from_each f (suc n) h = and_from _ _ (all_from_each f n (λ i k. h i (omega arith))) (h n (omega arith))
 
 pub all_ext : (f g : ℕ → Bool) (n : ℕ) → ((i : ℕ) → i < n → f i ≡ g i) → all_to f n ≡ all_to g n
 unfolding all_to
@@ -111,24 +111,14 @@ all_ext f g zero h = refl
 all_ext f g (suc n) h = ap₂ ◌&&◌ (all_ext f g n (λ i k. h i (omega arith))) (h n (omega arith))
 
 pub all_fails : (f : ℕ → Bool) (n i : ℕ) → i < n → f i ≡ false → all_to f n ≡ false
-all_fails f n i h e = so_not (all_to f n) (λ t. not_so e (all_at f n t i h))
+all_fails f n i h e = false_from_ne_true (all_to f n) (λ t. both_ways _ e (all_at f n t i h))
 
 -- the k-th test of a list of tests that all hold
 pub test_at : (ts : List Bool) → So (all_of ts) → (k : ℕ) → So (get_or ts k true)
 unfolding all_of
 test_at [] h k = refl
-test_at (t ∷ ts) h zero = and_left t (all_of ts) h
-test_at (t ∷ ts) h (suc k) = test_at ts (and_right t (all_of ts) h) k
-
--- tests joined from the left, as code joins them
-abbrev pub joined : Bool → List Bool → Bool
-joined t [] = t
-joined t (u ∷ us) = joined (t && u) us
-
-pub joined_all : (t : Bool) (us : List Bool) → joined t us ≡ all_of (t ∷ us)
-unfolding all_of
-joined_all t [] = sym (and-true t)
-joined_all t (u ∷ us) = joined_all (t && u) us ∙ and_assoc t u (all_of us)
+test_at (t ∷ ts) h zero = (and_parts t (all_of ts) h).0
+test_at (t ∷ ts) h (suc k) = test_at ts (and_parts t (all_of ts) h).1 k
 
 pub any_ext : (f g : ℕ → Bool) (n : ℕ) → ((i : ℕ) → i < n → f i ≡ g i) → any_to f n ≡ any_to g n
 unfolding any_to
@@ -144,7 +134,7 @@ any_of f (suc n) i h k =
 
 pub any_at : (f : ℕ → Bool) (n : ℕ) → So (any_to f n) → (i : ℕ) × (i < n) × So (f i)
 unfolding any_to
-any_at f zero h = absurd (not_so refl h)
+any_at f zero h = absurd (both_ways _ refl h)
 any_at f (suc n) h =
     ⊎_elim (λ k. let found = any_at f n k in (found.0, omega (arith, found.1), found.2)) (λ k. (n, omega arith, k))
     (or_cases (any_to f n) (f n) h)
@@ -162,7 +152,7 @@ module _ (f : ℕ → Bool) (n k : ℕ) (ih : First f n k) where
   first_nowhere : n ≤ k → f n ≡ false → First f (suc n) (suc n)
   first_nowhere h t = record {
     within = le_refl _;
-    before = up_to (λ j. So (f j) → ⊥) n (λ j l. ih.before j (omega (arith, ih.within))) (not_so t);
+    before = up_to (λ j. So (f j) → ⊥) n (λ j l. ih.before j (omega (arith, ih.within))) (both_ways _ t);
     found = λ l. absurd (lt_irrefl _ l);
   }
 
@@ -173,12 +163,12 @@ first_is f zero =
 first_is f (suc n) =
     let ih = first_is f n in
     ⊎_elim
-    (λ t. subst (First f (suc n)) (sym (cond_so _ _ t)) (first_earlier f n (first_to f n) ih (ltb-true _ _ t)))
+    (λ t. subst (First f (suc n)) (sym (cond-true _ _ _ t)) (first_earlier f n (first_to f n) ih (ltb-true _ _ t)))
     (λ t. ⊎_elim
-    (λ u. subst (First f (suc n)) (sym (cond_not _ _ t ∙ cond_so _ _ u)) (first_here f n (first_to f n) ih (ltb-false _ _ t) u))
-    (λ u. subst (First f (suc n)) (sym (cond_not _ _ t ∙ cond_not _ _ u)) (first_nowhere f n (first_to f n) ih (ltb-false _ _ t) u))
-    (dichotomy (f n)))
-    (dichotomy (ltb (first_to f n) n))
+    (λ u. subst (First f (suc n)) (sym (cond-false _ _ _ t ∙ cond-true _ _ _ u)) (first_here f n (first_to f n) ih (ltb-false _ _ t) u))
+    (λ u. subst (First f (suc n)) (sym (cond-false _ _ _ t ∙ cond-false _ _ _ u)) (first_nowhere f n (first_to f n) ih (ltb-false _ _ t) u))
+    (cases_Bool (f n)))
+    (cases_Bool (ltb (first_to f n) n))
 
 -- no two numbers are the first
 pub first_once : (f : ℕ → Bool) (n : ℕ) {j k : ℕ} → First f n j → First f n k → j ≡ k
@@ -188,7 +178,7 @@ first_once f n {j} {k} a b = le_antisymm (not_after b a) (not_after a b)
     not_after {x} {y} p q = ⊎_elim
         (λ t. absurd (q.before x (ltb-true x y t) (p.found (omega (arith, ltb-true x y t, q.within)))))
         (ltb-false x y)
-        (dichotomy (ltb x y))
+        (cases_Bool (ltb x y))
 
 -- the best
 
@@ -220,9 +210,9 @@ best_is f zero z =
 best_is f (suc n) z =
     let ih = best_is f n z in
     ⊎_elim
-    (λ t. subst (Best f (suc (suc n))) (sym (cond_so _ _ t)) (best_new f (suc n) (best f (suc n)) ih (ltb-true _ _ t)))
-    (λ t. subst (Best f (suc (suc n))) (sym (cond_not _ _ t)) (best_old f (suc n) (best f (suc n)) ih (ltb-false _ _ t)))
-    (dichotomy (ltb (f (best f (suc n))) (f (suc n))))
+    (λ t. subst (Best f (suc (suc n))) (sym (cond-true _ _ _ t)) (best_new f (suc n) (best f (suc n)) ih (ltb-true _ _ t)))
+    (λ t. subst (Best f (suc (suc n))) (sym (cond-false _ _ _ t)) (best_old f (suc n) (best f (suc n)) ih (ltb-false _ _ t)))
+    (cases_Bool (ltb (f (best f (suc n))) (f (suc n))))
 
 -- no two numbers are the best
 pub best_once : (f : ℕ → ℕ) (n : ℕ) {j k : ℕ} → Best f n j → Best f n k → j ≡ k
@@ -232,14 +222,10 @@ best_once f n {j} {k} a b = le_antisymm (not_after a b) (not_after b a)
     not_after {x} {y} p q = ⊎_elim
         (λ t. absurd (lt_irrefl (f x) (omega (arith, p.lowest y (ltb-true y x t), q.highest x p.within))))
         (ltb-false y x)
-        (dichotomy (ltb y x))
+        (cases_Bool (ltb y x))
 
 -- one index more, as the code counts
 
 pub sum_more : (f : ℕ → ℕ) (i : ℕ) → sum_to f (i + 1) ≡ sum_to f i + f i
 unfolding sum_to
 sum_more f i = ap (sum_to f) (add-one i)
-
-pub all_more : (f : ℕ → Bool) (i : ℕ) → all_to f (i + 1) ≡ (all_to f i && f i)
-unfolding all_to
-all_more f i = ap (all_to f) (add-one i)

@@ -7,11 +7,11 @@ use mathlib.Core.Logic.{⊎_elim}
 use Prim.Native.Nat.{ℕ, suc, ◌+◌, ◌≤◌, ◌<◌, min}
 use lib.Dec.{leb}
 use borrow.Author.Tests.{leb-true, leb-false}
-use Rattle.laws.proofs.Truth.{dichotomy}
 use native.Mathlib.Nat.{add-zero, suc-add, add-suc}
 use native.Mathlib.Omega.{arith}
 use lib.ListN.{length, get_or, set, take, drop}
 use borrow.Rule.Slice.PartMut.{put_mid}
+use Rattle.std.proofs.lemmas.Bool.{cases_Bool}
 use Rattle.std.proofs.lemmas.List.{drop-drop}
 use lib.Seq.{sets, sets-eq, take_all, take-length, get_or-set_same, get_or-set_other, set_comm}
 use Rattle.laws.specs.Fold.{sum_to}
@@ -51,4 +51,4 @@ take_most k l = ⊎_elim
     let all : min (length l) k ≡ length l = omega (arith, leb-true (length l) k t) in
     ap (λ (n : ℕ). take n l) all ∙ take-length l ∙ sym (take_all k l (leb-true (length l) k t)))
     (λ t. let some : min (length l) k ≡ k = omega (arith, leb-false (length l) k t) in ap (λ (n : ℕ). take n l) some)
-    (dichotomy (leb (length l) k))
+    (cases_Bool (leb (length l) k))

@@ -1,22 +1,18 @@
 -- Folds over an index, beside the same over the list of the indices, which is what a chain of iterators over a range runs through.
 -- Assumes nothing.
 use mathlib.Core.Path.{◌≡◌, ◌∙◌, refl, sym, ap, ap₂}
-use mathlib.Core.Bool.{Bool, true, false, ◌&&◌, ◌||◌, and-true}
+use mathlib.Core.Bool.{Bool, true, false, ◌||◌}
 use Prim.Native.Nat.{ℕ, zero, suc, ◌+◌, ◌≤◌}
 use native.Mathlib.Nat.{add-zero}
 use native.Mathlib.Omega.{arith}
-use Rattle.std.specs.List.{list_any, list_all}
+use Rattle.std.specs.List.{list_any}
 use Rattle.std.specs.List.{range_with_len}
-use Rattle.laws.specs.Fold.{any_to, all_to}
+use Rattle.laws.specs.Fold.{any_to}
 use Rattle.laws.proofs.Fold.{any_ext}
 
 or_assoc : (a b c : Bool) → ((a || b) || c) ≡ (a || (b || c))
 or_assoc true b c = refl
 or_assoc false b c = refl
-
-and_assoc : (a b c : Bool) → ((a && b) && c) ≡ (a && (b && c))
-and_assoc true b c = refl
-and_assoc false b c = refl
 
 or_false : (a : Bool) → (a || false) ≡ a
 or_false true = refl
@@ -28,11 +24,6 @@ unfolding any_to
 any_front f zero = sym (or_false (f 0))
 any_front f (suc n) = ap (λ (b : Bool). b || f (suc n)) (any_front f n) ∙ or_assoc (f 0) _ (f (suc n))
 
-all_front : (f : ℕ → Bool) (n : ℕ) → all_to f (suc n) ≡ (f 0 && all_to (λ i. f (suc i)) n)
-unfolding all_to
-all_front f zero = sym (and-true (f 0))
-all_front f (suc n) = ap (λ (b : Bool). b && f (suc n)) (all_front f n) ∙ and_assoc (f 0) _ (f (suc n))
-
 shifted : (a i : ℕ) → a + 1 + i ≡ a + suc i
 shifted a i = omega arith
 
@@ -41,19 +32,6 @@ any_range f a zero = unfold any_to in refl
 any_range f a (suc n) =
     ap₂ ◌||◌ (ap f (sym (add-zero a))) (any_range f (a + 1) n ∙ (λ k. any_to (λ i. f (shifted a i k)) n))
     ∙ sym (any_front (λ i. f (a + i)) n)
-
-pub all_range : (f : ℕ → Bool) (a n : ℕ) → list_all f (range_with_len a n) ≡ all_to (λ i. f (a + i)) n
-all_range f a zero = unfold all_to in refl
-all_range f a (suc n) =
-    ap₂ ◌&&◌ (ap f (sym (add-zero a))) (all_range f (a + 1) n ∙ (λ k. all_to (λ i. f (shifted a i k)) n))
-    ∙ sym (all_front (λ i. f (a + i)) n)
-
--- over the indices from 0 on
-pub all_from_zero : (f : ℕ → Bool) (n : ℕ) → list_all f (range_with_len 0 n) ≡ all_to f n
-all_from_zero f n = all_range f 0 n ∙ (λ k. all_to (λ i. f (zero_more i k)) n)
-  where
-    zero_more : (i : ℕ) → 0 + i ≡ i
-    zero_more i = omega arith
 
 -- over the indices from 1 on, where the one before is none
 pub any_from_one : (f g : ℕ → Bool) (n : ℕ) → ((i : ℕ) → 1 ≤ i → i ≤ n → g i ≡ f i) → f 0 ≡ false → list_any g (range_with_len 1 n) ≡ any_to f (suc n)

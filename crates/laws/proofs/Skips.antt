@@ -8,8 +8,8 @@ use native.Mathlib.Numerals.{add-one}
 use native.Mathlib.Omega.{arith}
 use lib.Dec.{ltb}
 use borrow.Author.Tests.{le-ltb}
+use Rattle.std.proofs.lemmas.Bool.{cond-false, cond_both}
 use Rattle.laws.specs.Fold.{best}
-use Rattle.laws.proofs.Truth.{cond_not, cond_elim}
 
 pub best_skip : (f : ℕ → ℕ) (a d : ℕ) → ((j : ℕ) → j < d → f (a + j) ≡ 0) → best f (a + d) ≡ best f a
 unfolding best
@@ -17,7 +17,7 @@ best_skip f a zero h = ap (best f) (add-zero a)
 best_skip f a (suc d) h =
     let z : f (a + d) ≡ 0 = h d (omega arith) in
     ap (best f) (add-suc a d)
-    ∙ cond_not (a + d) (best f (a + d)) (le-ltb (f (best f (a + d))) (f (a + d)) (omega arith))
+    ∙ cond-false _ (a + d) (best f (a + d)) (le-ltb (f (best f (a + d))) (f (a + d)) (omega arith))
     ∙ best_skip f a d (λ j k. h j (omega arith))
 
 pub best_more : (f : ℕ → ℕ) (n : ℕ) → best f (n + 1) ≡ cond (ltb (f (best f n)) (f n)) n (best f n)
@@ -28,7 +28,7 @@ best_within : (f : ℕ → ℕ) (n : ℕ) → best f n ≤ n
 unfolding best
 best_within f zero = omega arith
 best_within f (suc n) =
-    cond_elim (λ (k : ℕ). k ≤ suc n) (ltb (f (best f n)) (f n)) (λ _. omega arith) (λ _. omega (arith, best_within f n))
+    cond_both (ltb (f (best f n)) (f n)) _ _ (λ (k : ℕ). k ≤ suc n) (λ _. omega arith) (λ _. omega (arith, best_within f n))
 
 pub best_ext : (f g : ℕ → ℕ) (n : ℕ) → ((i : ℕ) → i < n → f i ≡ g i) → best f n ≡ best g n
 unfolding best

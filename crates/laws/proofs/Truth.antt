@@ -1,7 +1,7 @@
 -- Tests and the facts that they stand for.
 -- Assumes nothing.
 use mathlib.Core.Path.{◌≡◌, ◌∙◌, refl, sym, subst}
-use mathlib.Core.Bool.{Bool, true, false, not, cond, ◌&&◌, ◌||◌, So, false≢true}
+use mathlib.Core.Bool.{Bool, true, false, cond, ◌&&◌, So, false≢true}
 use mathlib.Core.Logic.{◌⊎◌, inl, inr}
 
 -- a test either holds or fails
@@ -15,10 +15,6 @@ not_so e h = false≢true (sym e ∙ h)
 pub so_not : (b : Bool) → (So b → ⊥) → b ≡ false
 so_not true h = absurd (h refl)
 so_not false h = refl
-
-pub fails : (b : Bool) → So (not b) → b ≡ false
-fails true h = absurd (false≢true h)
-fails false h = refl
 
 pub same_test : (a b : Bool) → (So a → So b) → (So b → So a) → a ≡ b
 same_test true true f g = refl
@@ -43,18 +39,6 @@ and_fails_left b e = subst (λ (x : Bool). (x && b) ≡ false) (sym e) refl
 pub and_fails_right : (a : Bool) {b : Bool} → b ≡ false → (a && b) ≡ false
 and_fails_right true e = e
 and_fails_right false e = refl
-
-pub or_left : (a b : Bool) → So a → So (a || b)
-or_left true b h = refl
-or_left false b h = absurd (false≢true h)
-
-pub or_right : (a b : Bool) → So b → So (a || b)
-or_right true b h = refl
-or_right false b h = h
-
-pub or_cases : (a b : Bool) → So (a || b) → So a ⊎ So b
-or_cases true b h = inl refl
-or_cases false b h = inr h
 
 module _ {ℓ} {A : Type ℓ} where
   pub cond_so : {b : Bool} (x y : A) → So b → cond b x y ≡ x

@@ -8,10 +8,10 @@ use Prim.Native.Nat.{ℕ, suc, ◌+◌, ◌≤◌, ◌<◌}
 use native.Mathlib.Nat.{suc-ne-zero}
 use lib.Dec.{leb, ltb}
 use borrow.Author.Tests.{ltb-false, leb-true, leb-false, not-true, not-false}
-use Rattle.laws.proofs.Truth.{and_right}
 use Rattle.model.specs.Board.{is_source, is_context}
 use Rattle.model.specs.declared.Refusal.{Refusal}
 use Rattle.model.specs.Refusals.{number_of, answer_number, Ground, first_of}
+use Rattle.std.proofs.lemmas.Bool.{and_parts}
 use Rattle.std.specs.Prelude.{Result, Ok, Err}
 use Rattle.leaves.specs.Checks.{step_grounds, line_grounds, advance_grounds, context_grounds, percentile_grounds}
 
@@ -64,4 +64,4 @@ context_passed m c e = not-false _ (passed (not (is_context m c)) 6 [] e).0
 
 pub percentile_passed : (p all : ℕ) → first_of (percentile_grounds p all) ≡ 0 → p ≤ 1000
 percentile_passed p all e =
-    leb-true p 1000 (and_right (leb 1 p) _ (not-false _ (passed (not (leb 1 p && leb p 1000)) 8 _ e).0))
+    leb-true p 1000 (and_parts (leb 1 p) _ (not-false _ (passed (not (leb 1 p && leb p 1000)) 8 _ e).0)).1

@@ -8,8 +8,8 @@ use native.Mathlib.Nat.{eq-or-lt_of_le}
 use lib.Dec.{leb, ltb}
 use native.Mathlib.Omega.{arith}
 use borrow.Author.Tests.{le-leb, le-ltb}
+use Rattle.std.proofs.lemmas.Bool.{false_from_ne_true, and_left, cond-true}
 use Rattle.laws.specs.Fold.{all_of, best}
-use Rattle.laws.proofs.Truth.{so_not, and_fails_left, cond_so}
 use Rattle.laws.proofs.Fold.{best_is, best_once}
 use Rattle.model.specs.declared.State.{State}
 use Rattle.model.specs.Board.{request, is_source, priority, threshold, enabled}
@@ -39,7 +39,7 @@ module _ (s : State) (c i : ℕ) (low : 1 ≤ i) (high : i ≤ s.shape.sources) 
 
       spare : (b : Bool) (p : ℕ) → cond (b && leb 1 p) p 0 ≡ cond b p 0
       spare true zero = refl
-      spare true (suc p) = cond_so (suc p) 0 (le-leb 1 (suc p) (omega arith))
+      spare true (suc p) = cond-true _ (suc p) 0 (le-leb 1 (suc p) (omega arith))
       spare false p = refl
 
   pub rouses_read : rouses s c i ≡ ltb (threshold s.settings c) (read_rank s c i)
@@ -59,7 +59,7 @@ module _ (s : State) (c i : ℕ) (low : 1 ≤ i) (high : i ≤ s.shape.sources) 
 module _ (s : State) (c : ℕ) where
   no_zero : pending_for s c 0 ≡ false
   unfolding pending_for all_of
-  no_zero = and_fails_left _ (so_not (is_source s.shape.sources 0) (λ t. absurd (omega (arith, (source_range s.shape.sources 0 t).0))))
+  no_zero = and_left _ _ (false_from_ne_true (is_source s.shape.sources 0) (λ t. absurd (omega (arith, (source_range s.shape.sources 0 t).0))))
 
   pub rank_zero : rank s c 0 ≡ 0
   unfolding rank eligible
@@ -67,7 +67,7 @@ module _ (s : State) (c : ℕ) where
 
   pub rouses_zero : rouses s c 0 ≡ false
   unfolding rouses
-  rouses_zero = and_fails_left _ no_zero
+  rouses_zero = and_left _ _ no_zero
 
 -- what going down from n has found from i on: the best of those sources, the lowest of several; 0 where none is worth anything
 pub record Down (f : ℕ → ℕ) (n i won high : ℕ) : Type 0 where

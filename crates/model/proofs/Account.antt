@@ -13,9 +13,9 @@ use lib.Dec.{ltb, eqb}
 use lib.ListN.{length, get_or}
 use lib.Seq.{get_or-set_same, get_or-set_other}
 use borrow.Author.Tests.{eqb-true, eqb-false, eq-eqb, ne_eqb}
+use Rattle.std.proofs.lemmas.Bool.{cases_Bool, both_ways, false_from_ne_true, and_parts, cond-true, cond-false, cond_both}
 use Rattle.limits.specs.Limits.{source_room, bucket_room}
 use Rattle.laws.specs.Fold.{sum_to}
-use Rattle.laws.proofs.Truth.{dichotomy, not_so, so_not, and_left, cond_so, cond_not, cond_elim}
 use Rattle.laws.proofs.Fold.{same_or_other, sum_ext, sum_add, sum_scale}
 use Rattle.model.specs.declared.State.{State}
 use Rattle.model.specs.declared.Request.{Request}
@@ -57,27 +57,27 @@ carries_same : (clock : ℕ) (r k : Request) → k.stage ≡ r.stage → k.start
 unfolding is_pending
 carries_same clock r k stage start = record {
   kept = λ t. (ap (λ (x : ℕ). eqb x 1) stage ∙ t, start);
-  new = λ out t. absurd (not_so out (sym (ap (λ (x : ℕ). eqb x 1) stage) ∙ t));
+  new = λ out t. absurd (both_ways _ out (sym (ap (λ (x : ℕ). eqb x 1) stage) ∙ t));
 }
 
 carries_raised : (clock : ℕ) (r k : Request) → is_pending r ≡ false → Carries clock r (raised clock k)
 unfolding raised
-carries_raised clock r k out = record { kept = λ t. absurd (not_so out t); new = λ _ _. refl }
+carries_raised clock r k out = record { kept = λ t. absurd (both_ways _ out t); new = λ _ _. refl }
 
 carries_idled : (clock : ℕ) (r k : Request) → is_pending r ≡ false → Carries clock r (idled k)
 unfolding idled is_pending
-carries_idled clock r k out = record { kept = λ t. absurd (not_so out t); new = λ _ t. absurd (not_so refl t) }
+carries_idled clock r k out = record { kept = λ t. absurd (both_ways _ out t); new = λ _ t. absurd (both_ways _ refl t) }
 
 -- no wait ends in it and no age changes
 carries_age : (clock : ℕ) (r k : Request) → Carries clock r k → open_age clock k ≡ open_age clock r
 unfolding open_age
 carries_age clock r k f = ⊎_elim
     (λ (t : So (is_pending r)).
-    cond_so _ _ (f.kept t).0 ∙ ap (λ (x : ℕ). clock - x) (f.kept t).1 ∙ sym (cond_so _ _ t))
-    (λ out. cond_elim (λ (x : ℕ). x ≡ cond (is_pending r) (clock - r.start) 0) (is_pending k)
-    (λ t. omega (arith, f.new out t, cond_not {b = is_pending r} (clock - r.start) 0 out))
-    (λ _. sym (cond_not _ _ out)))
-    (dichotomy (is_pending r))
+    cond-true _ _ _ (f.kept t).0 ∙ ap (λ (x : ℕ). clock - x) (f.kept t).1 ∙ sym (cond-true _ _ _ t))
+    (λ out. cond_both (is_pending k) _ _ (λ (x : ℕ). x ≡ cond (is_pending r) (clock - r.start) 0)
+    (λ t. omega (arith, f.new out t, cond-false (is_pending r) (clock - r.start) 0 out))
+    (λ _. sym (cond-false _ _ _ out)))
+    (cases_Bool (is_pending r))
 
 -- a change of the line, and one that leaves a source in service there
 abbrev Lined : ℕ → Request → Request → Type 0
@@ -101,18 +101,18 @@ module _ (clock : ℕ) (v : Bool) (r : Request) where
 
   lined : (kind : ℕ) → Lined clock r (line_changed kind clock v r)
   unfolding line_changed level_changed edge_changed
-  lined kind = cond_elim (Lined clock r) (eqb kind 0)
-      (λ _. cond_elim (Lined clock r) (is_idle r && v) (λ t. lined_raised (and_left (is_idle r) v t)) (λ _. lined_quiet))
-      (λ _. cond_elim (Lined clock r) (not r.line && v)
-      (λ _. cond_elim (Lined clock r) (is_idle r) lined_raised
-      (λ _. cond_elim (Lined clock r) (eqb kind 2) (λ _. lined_counted) (λ _. lined_quiet)))
+  lined kind = cond_both (eqb kind 0) _ _ (Lined clock r)
+      (λ _. cond_both (is_idle r && v) _ _ (Lined clock r) (λ t. lined_raised (and_parts (is_idle r) v t).0) (λ _. lined_quiet))
+      (λ _. cond_both (not r.line && v) _ _ (Lined clock r)
+      (λ _. cond_both (is_idle r) _ _ (Lined clock r) lined_raised
+      (λ _. cond_both (eqb kind 2) _ _ (Lined clock r) (λ _. lined_counted) (λ _. lined_quiet)))
       (λ _. lined_quiet))
 
 carries_completed : (kind clock : ℕ) (r : Request) → So (is_in_service r) → Carries clock r (completed kind clock r)
 unfolding completed
 carries_completed kind clock r t =
-    cond_elim (Carries clock r) (eqb kind 0 && r.line) (λ _. carries_raised clock r r out)
-    (λ _. cond_elim (Carries clock r) (eqb kind 2 && ltb 0 r.extra)
+    cond_both (eqb kind 0 && r.line) _ _ (Carries clock r) (λ _. carries_raised clock r r out)
+    (λ _. cond_both (eqb kind 2 && ltb 0 r.extra) _ _ (Carries clock r)
     (λ _. carries_raised clock r (edge_taken r) out) (λ _. carries_idled clock r r out))
   where
     out : is_pending r ≡ false
@@ -146,12 +146,12 @@ at_carried i clock count sum rose since r k es fs f g same-claims same-ticks ser
     begun : (b c : Bool) → (So b → r.start ≡ since) → (So b → So c × (k.start ≡ r.start)) → (b ≡ false → So c → k.start ≡ clock) →
         So c → k.start ≡ cond (not b && c) clock since
     begun true c old kept new t = (kept refl).1 ∙ old refl
-    begun false c old kept new t = new refl t ∙ sym (cond_so clock since t)
+    begun false c old kept new t = new refl t ∙ sym (cond-true _ clock since t)
 
     more : (b c : Bool) → rose ≡ claims_in (of_source i) es + cond b 1 0 → (So b → So c) →
         rose + cond (not b && c) 1 0 ≡ claims_in (of_source i) fs + cond c 1 0
     more true true e kept = omega (arith, same-claims)
-    more true false e kept = absurd (not_so refl (kept refl))
+    more true false e kept = absurd (both_ways _ refl (kept refl))
     more false true e kept = omega (arith, same-claims)
     more false false e kept = omega (arith, same-claims)
 
@@ -279,10 +279,10 @@ module _ (s : State) (p : Past) (f : Logged s p) where
         in_service t = ((takes_effect_iff s c v).0 t).service
 
         ended : last_is_claim v (finished v ∷ p.events) ≡ false
-        ended = unfold last_is_claim in cond_so _ _ (eq-eqb v v refl)
+        ended = unfold last_is_claim in cond-true _ _ _ (eq-eqb v v refl)
 
         passed : (j : ℕ) → j ≢ v → last_is_claim j (finished v ∷ p.events) ≡ last_is_claim j p.events
-        passed j ne = unfold last_is_claim in cond_not _ _ (ne_eqb v j (λ e. ne (sym e)))
+        passed j ne = unfold last_is_claim in cond-false _ _ _ (ne_eqb v j (λ e. ne (sym e)))
 
         by_cases : (b : Bool) → (So b → So (is_in_service (request s.requests v))) →
             Logged (with_steps (cond b (with_request s v k) s) m)
@@ -292,7 +292,7 @@ module _ (s : State) (p : Past) (f : Logged s p) where
             (one_carried s.requests v k room s.clock (carries_completed (kind_of s.shape v) s.clock (request s.requests v) (service refl)))
             (λ _. unfold claims_in ticks_in in (refl, refl)) f.separate
             (one_stage s.requests v k room (λ j. So (last_is_claim j (finished v ∷ p.events)))
-            (λ y. absurd (not_so ended y))
+            (λ y. absurd (both_ways _ ended y))
             (λ j h ne y. (f.at j h).serving (sym (passed j ne) ∙ y)))
         by_cases false service = quiet _ refl refl refl refl
 
@@ -328,12 +328,12 @@ module _ (s : State) (p : Past) (f : Logged s p) where
       picked : (pick : ℕ → ℕ → Bool) → So (pick i w) →
           (claims_in pick es ≡ claims_in pick p.events + 1) × (ticks_in pick es ≡ ticks_in pick p.events + w)
       unfolding claims_in ticks_in
-      picked pick t = (omega (arith, cond_so {A = ℕ} {b = pick i w} 1 0 t), omega (arith, cond_so {b = pick i w} w 0 t))
+      picked pick t = (omega (arith, cond-true {A = ℕ} (pick i w) 1 0 t), omega (arith, cond-true (pick i w) w 0 t))
 
       passed_over : (pick : ℕ → ℕ → Bool) → pick i w ≡ false →
           (claims_in pick es ≡ claims_in pick p.events) × (ticks_in pick es ≡ ticks_in pick p.events)
       unfolding claims_in ticks_in
-      passed_over pick t = (omega (arith, cond_not {A = ℕ} {b = pick i w} 1 0 t), omega (arith, cond_not {b = pick i w} w 0 t))
+      passed_over pick t = (omega (arith, cond-false {A = ℕ} (pick i w) 1 0 t), omega (arith, cond-false (pick i w) w 0 t))
 
       -- what is kept of a source after the claim, whatever its request is then
       abbrev AtThen : ℕ → Request → Type 0
@@ -344,10 +344,10 @@ module _ (s : State) (p : Past) (f : Logged s p) where
       own : AtThen i (served r)
       unfolding served is_pending
       own = record {
-        started = λ t. absurd (not_so refl t);
+        started = λ t. absurd (both_ways _ refl t);
         claims = omega (arith, one_more.0, (f.at i h).claims, (picked (of_source i) (eq-eqb i i refl)).0);
         ticks = omega (arith, one_more.1, (f.at i h).ticks, (picked (of_source i) (eq-eqb i i refl)).1);
-        rises = omega (arith, (f.at i h).rises, cond_so {A = ℕ} {b = is_pending r} 1 0 pending, cond_not {A = ℕ} {b = rising r (served r)} 1 0 stays, (picked (of_source i) (eq-eqb i i refl)).0);
+        rises = omega (arith, (f.at i h).rises, cond-true {A = ℕ} (is_pending r) 1 0 pending, cond-false {A = ℕ} (rising r (served r)) 1 0 stays, (picked (of_source i) (eq-eqb i i refl)).0);
         serving = λ _. refl;
       }
         where
@@ -374,7 +374,7 @@ module _ (s : State) (p : Past) (f : Logged s p) where
           differs = ne_eqb i j (λ e. ne (sym e))
 
           before : last_is_claim j es ≡ last_is_claim j p.events
-          before = unfold last_is_claim in cond_not _ _ differs
+          before = unfold last_is_claim in cond-false _ _ _ differs
 
       claim_of_logged : Logged (with_steps (claim_of s i) m) (grown p s (with_steps (claim_of s i) m) 0 (claimed i w ∷ []))
       unfolding with_steps claim_of with_counts with_request grown rises bit_of
@@ -395,7 +395,7 @@ module _ (s : State) (p : Past) (f : Logged s p) where
               rest.0 ∙ (f.bucket k l).0 ∙ sym (passed_over (of_bucket k) differs).0,
               rest.1 ∙ (f.bucket k l).1 ∙ sym (passed_over (of_bucket k) differs).1,
             ));
-        separate = (so_not (last_is_claim i p.events) (λ y. absurd (omega (arith, (f.at i h).serving y, stage_one))), f.separate);
+        separate = (false_from_ne_true (last_is_claim i p.events) (λ y. absurd (omega (arith, (f.at i h).serving y, stage_one))), f.separate);
         claims = omega (arith, sums.0, f.claims, (picked every refl).0);
         waited = omega (arith, sums.1, f.waited, (picked every refl).1);
         area = omega (arith, f.area, (picked every refl).1, ages);
@@ -413,7 +413,7 @@ module _ (s : State) (p : Past) (f : Logged s p) where
           stage_one = eqb-true r.stage 1 (unfold is_pending in pending)
 
           open_was : open_age s.clock r ≡ w
-          open_was = unfold open_age wait in cond_so _ _ pending
+          open_was = unfold open_age wait in cond-true _ _ _ pending
 
           open_is : open_age s.clock (served r) ≡ 0
           open_is = unfold open_age is_pending served in refl
@@ -493,7 +493,7 @@ module _ (s : State) (p : Past) (f : Logged s p) where
         (λ (t : So (eqb (respond a s).number 0)).
         subst (λ (o : Outcome). Logged o.state (noted p a s o)) (sym (accepted_as a s (unfold respond in eqb-true _ 0 t))) (accepted_logged a))
         (λ t. refused (eqb (respond a s).number 0) t (respond a s).state (refused_gives a s (eqb-false _ 0 t)).1 _ _)
-        (dichotomy (eqb (respond a s).number 0))
+        (cases_Bool (eqb (respond a s).number 0))
       where
         refused : (b : Bool) → b ≡ false → (k : State) → k ≡ s → (n : ℕ) (es : List Event) → Logged k (grown p s k (cond b n 0) (cond b es []))
         refused b e k is n es = subst₂ (λ (b : Bool) (k : State). Logged k (grown p s k (cond b n 0) (cond b es []))) (sym e) (sym is) unmoved

@@ -7,8 +7,8 @@ use Prim.Native.Nat.{ℕ, ◌+◌, ◌<◌}
 use native.Mathlib.Omega.{arith}
 use lib.Seq.{get_or-set_same, get_or-set_other}
 use borrow.Author.Tests.{eq-eqb, ne_eqb}
+use Rattle.std.proofs.lemmas.Bool.{cond-true, cond-false}
 use Rattle.limits.specs.Limits.{source_room, bucket_room}
-use Rattle.laws.proofs.Truth.{cond_so, cond_not}
 use Rattle.model.specs.declared.State.{State}
 use Rattle.model.specs.declared.Request.{Request}
 use Rattle.model.specs.declared.Register.TheVariants.{Claim}
@@ -73,10 +73,10 @@ module _ (s : State) (sound : Sound s) (c : ℕ) where
   unfolding read_of after_read claim_by
   claim_books some =
       subst (λ (t : State). Booked s t (winner s c) (wait s.clock (request s.requests (winner s c))))
-      (sym (cond_not _ _ (ne_eqb _ 0 some)))
+      (sym (cond-false _ _ _ (ne_eqb _ 0 some)))
       (claim_booked (winner s c) ((winner_is s c).some some).0.source)
 
 -- "None: 0, nothing booked."
 pub claim_none : (s : State) (c : ℕ) → read_of s (Claim c) ≡ 0 → after_read s (Claim c) ≡ s
 unfolding read_of after_read claim_by
-claim_none s c none = cond_so _ _ (eq-eqb _ 0 none)
+claim_none s c none = cond-true _ _ _ (eq-eqb _ 0 none)

@@ -7,7 +7,7 @@ use mathlib.Core.List.{List, ◌∷◌, Memᴰ}
 use Prim.Native.Nat.{ℕ, ◌+◌, ◌%◌, ◌<◌}
 use lib.Dec.{eqb}
 use borrow.Author.Tests.{ltb-false, leb-false, eqb-true, eqb-false, not-false}
-use Rattle.laws.proofs.Truth.{dichotomy}
+use Rattle.std.proofs.lemmas.Bool.{cases_Bool}
 use Rattle.model.specs.declared.State.{State}
 use Rattle.model.specs.Refusals.{Ground}
 use Rattle.model.specs.Registers.{decode}
@@ -71,4 +71,4 @@ module _ (s : State) where
   stays_sound a f = ⊎_elim
       (λ (t : So (eqb (respond a s).number 0)). accepted_sound a (eqb-true _ 0 t))
       (λ t. subst Sound (sym (refused_gives a s (eqb-false _ 0 t)).1) f)
-      (dichotomy (eqb (respond a s).number 0))
+      (cases_Bool (eqb (respond a s).number 0))

@@ -11,11 +11,11 @@ use lib.ListN.{length, get_or, set, length-set}
 use lib.Seq.{get_or-set_same, get_or-set_other}
 use lib.Pow.{pow_pos}
 use borrow.Author.Tests.{ltb-true, ltb-false, eqb-true, eqb-false}
+use Rattle.std.proofs.lemmas.Bool.{cases_Bool, both_ways, and_parts}
 use Rattle.limits.specs.Limits.{source_room, context_room, word_room, enable_room, bucket_room}
 use Rattle.laws.specs.Fold.{sum_to}
 use Rattle.laws.specs.Bits.{bit}
 use Rattle.laws.proofs.Fold.{same_or_other}
-use Rattle.laws.proofs.Truth.{dichotomy, not_so, and_right}
 use Rattle.model.specs.declared.Shape.{Shape}
 use Rattle.model.specs.declared.Settings.{Settings}
 use Rattle.model.specs.declared.Counts.{Counts}
@@ -99,9 +99,9 @@ same_context h g k c t e f = record {
 -- a kept word has the bits of sources alone
 kept_sources : (n w v j : ℕ) → So (bit (kept n w v) j) → (j < 32) × So (is_source n (w * 32 + j))
 kept_sources n w v j t = ⊎_elim
-    (λ l. (ltb-true j 32 l, and_right (bit v j) _ (sym (kept_bit n w v j (ltb-true j 32 l)) ∙ t)))
-    (λ l. absurd (not_so (kept_above n w v j (ltb-false j 32 l)) t))
-    (dichotomy (ltb j 32))
+    (λ l. (ltb-true j 32 l, (and_parts (bit v j) _ (sym (kept_bit n w v j (ltb-true j 32 l)) ∙ t)).1))
+    (λ l. absurd (both_ways _ (kept_above n w v j (ltb-false j 32 l)) t))
+    (cases_Bool (ltb j 32))
 
 module _ (s : State) (f : Sound s) where
   -- more steps
@@ -227,7 +227,7 @@ module _ (s : State) (f : Sound s) where
   sound_priority i v source = sound_settings changed
       (length-set s.settings.priority i kept_value ∙ f.types.priority) f.types.enable f.types.threshold
       (λ j h. same_or_other (λ j. (priority changed j ≤ most) × (is_source s.shape.sources j ≡ false → priority changed j ≡ 0)) i j
-      (subst (λ (x : ℕ). x ≤ most) (sym new) (reduced_le v s.shape.bits), λ e. absurd (not_so e source))
+      (subst (λ (x : ℕ). x ≤ most) (sym new) (reduced_le v s.shape.bits), λ e. absurd (both_ways _ e source))
       (λ ne. (
         subst (λ (x : ℕ). x ≤ most) (sym (old j ne)) (f.source j h).priorities,
         λ e. old j ne ∙ ((f.source j h).absent e).priority,
@@ -288,8 +288,8 @@ module _ (s : State) (f : Sound s) where
 
       own : SoundContext s.shape s.settings c → SoundContext s.shape changed c
       own k = record {
-        absent_threshold = λ e. absurd (not_so e there);
-        absent_enables = λ e. absurd (not_so e there);
+        absent_threshold = λ e. absurd (both_ways _ e there);
+        absent_enables = λ e. absurd (both_ways _ e there);
         thresholds = subst (λ (x : ℕ). x ≤ 2 ^ s.shape.bits - 1) (sym new) (reduced_le v s.shape.bits);
         enables = unfold enable_word in k.enables;
       }
@@ -302,7 +302,7 @@ module _ (s : State) (f : Sound s) where
       (λ d h. record {
         absent_threshold = unfold threshold in (f.context d h).absent_threshold;
         absent_enables = λ e x l.
-            old d x (λ same. not_so e (subst (λ (y : ℕ). So (is_context s.shape.contexts y)) (omega arith) there))
+            old d x (λ same. both_ways _ e (subst (λ (y : ℕ). So (is_context s.shape.contexts y)) (omega arith) there))
             ∙ (f.context d h).absent_enables e x l;
         thresholds = unfold threshold in (f.context d h).thresholds;
         enables = λ x j l. ⊎_elim
@@ -313,7 +313,7 @@ module _ (s : State) (f : Sound s) where
             (kept_sources s.shape.sources w v j (subst (λ (y : ℕ). So (bit y j)) (new d x same) set)))
             (λ t. λ set. (f.context d h).enables x j l
             (subst (λ (y : ℕ). So (bit y j)) (old d x (eqb-false (d * word_room + x) (c * word_room + w) t)) set))
-            (dichotomy (eqb (d * word_room + x) (c * word_room + w)));
+            (cases_Bool (eqb (d * word_room + x) (c * word_room + w)));
       })
     where
       word : ℕ

@@ -9,8 +9,8 @@ use native.Mathlib.Omega.{arith}
 use mathlib.Core.List.{List}
 use lib.Dec.{leb, ltb}
 use borrow.Author.Tests.{leb-true, ltb-true, ltb-false, lt-ltb, le-leb}
+use Rattle.std.proofs.lemmas.Bool.{cases_Bool, and_from, and_parts, cond-true, cond-false}
 use Rattle.laws.specs.Fold.{all_of, Best}
-use Rattle.laws.proofs.Truth.{dichotomy, and_intro, and_left, and_right, cond_so, cond_not}
 use Rattle.laws.proofs.Fold.{test_at, any_of, any_at, best_is, best_once}
 use Rattle.model.specs.declared.State.{State}
 use Rattle.model.specs.Board.{request, is_source, priority, threshold, enabled, enable_word, with_settings}
@@ -19,11 +19,11 @@ use Rattle.model.specs.Life.{pending_for, PendingFor, eligible, Eligible, rank, 
 
 pub source_range : (n i : ℕ) → So (is_source n i) → (1 ≤ i) × (i ≤ n)
 unfolding is_source
-source_range n i t = (leb-true 1 i (and_left _ _ t), leb-true i n (and_right (leb 1 i) _ t))
+source_range n i t = (leb-true 1 i (and_parts _ _ t).0, leb-true i n (and_parts (leb 1 i) _ t).1)
 
 pub range_source : (n i : ℕ) → 1 ≤ i → i ≤ n → So (is_source n i)
 unfolding is_source
-range_source n i a b = and_intro (le-leb 1 i a) (le-leb i n b)
+range_source n i a b = and_from _ _ (le-leb 1 i a) (le-leb i n b)
 
 pending_facts : (s : State) (c i : ℕ) → So (pending_for s c i) → PendingFor s c i
 unfolding pending_for
@@ -31,33 +31,33 @@ pending_facts s c i t = record { source = test_at _ t 0; pending = test_at _ t 1
 
 pending_test : (s : State) (c i : ℕ) → PendingFor s c i → So (pending_for s c i)
 unfolding pending_for all_of
-pending_test s c i f = and_intro f.source (and_intro f.pending (and_intro f.enable refl))
+pending_test s c i f = and_from _ _ f.source (and_from _ _ f.pending (and_from _ _ f.enable refl))
 
 pub eligible_iff : (s : State) (c i : ℕ) → So (eligible s c i) ↔ Eligible s c i
 unfolding eligible
 eligible_iff s c i = (
-  (λ t. (pending_facts s c i (and_left (pending_for s c i) _ t), leb-true 1 (priority s.settings i) (and_right (pending_for s c i) _ t))),
-  (λ f. and_intro (pending_test s c i f.0) (le-leb 1 (priority s.settings i) f.1)),
+  (λ t. (pending_facts s c i (and_parts (pending_for s c i) _ t).0, leb-true 1 (priority s.settings i) (and_parts (pending_for s c i) _ t).1)),
+  (λ f. and_from _ _ (pending_test s c i f.0) (le-leb 1 (priority s.settings i) f.1)),
 )
 
 pub rouses_iff : (s : State) (c i : ℕ) → So (rouses s c i) ↔ Rouses s c i
 unfolding rouses
 rouses_iff s c i = (
-  (λ t. (pending_facts s c i (and_left (pending_for s c i) _ t), ltb-true (threshold s.settings c) (priority s.settings i) (and_right (pending_for s c i) _ t))),
-  (λ f. and_intro (pending_test s c i f.0) (lt-ltb (threshold s.settings c) (priority s.settings i) f.1)),
+  (λ t. (pending_facts s c i (and_parts (pending_for s c i) _ t).0, ltb-true (threshold s.settings c) (priority s.settings i) (and_parts (pending_for s c i) _ t).1)),
+  (λ f. and_from _ _ (pending_test s c i f.0) (lt-ltb (threshold s.settings c) (priority s.settings i) f.1)),
 )
 
 module _ (s : State) (c : ℕ) where
   rank_of : (i : ℕ) → Eligible s c i → rank s c i ≡ priority s.settings i
   unfolding rank
-  rank_of i f = cond_so (priority s.settings i) 0 ((eligible_iff s c i).1 f)
+  rank_of i f = cond-true _ (priority s.settings i) 0 ((eligible_iff s c i).1 f)
 
   rank_none : (i : ℕ) → eligible s c i ≡ false → rank s c i ≡ 0
   unfolding rank
-  rank_none i e = cond_not (priority s.settings i) 0 e
+  rank_none i e = cond-false _ (priority s.settings i) 0 e
 
   rank_or_none : (i : ℕ) → Eligible s c i ⊎ (rank s c i ≡ 0)
-  rank_or_none i = ⊎_map (eligible_iff s c i).0 (rank_none i) (dichotomy (eligible s c i))
+  rank_or_none i = ⊎_map (eligible_iff s c i).0 (rank_none i) (cases_Bool (eligible s c i))
 
   ranked_some : (i : ℕ) → 0 < rank s c i → Eligible s c i
   ranked_some i h = ⊎_elim (λ f. f) (λ e. absurd (omega (arith, e))) (rank_or_none i)
@@ -84,7 +84,7 @@ module _ (s : State) (c : ℕ) where
     lowest = λ i f e. ⊎_elim
         (λ t. absurd (lt_irrefl (priority s.settings i) (omega (arith, b.lowest i (ltb-true i k t), rank_of i f, rank_le k))))
         (ltb-false i k)
-        (dichotomy (ltb i k));
+        (cases_Bool (ltb i k));
   }
     where
       some : k ≢ 0 → Eligible s c k

@@ -7,8 +7,8 @@ use Prim.Native.Nat.{ℕ, ◌+◌, ◌-◌, ◌≤◌, ◌<◌}
 use native.Mathlib.Omega.{arith}
 use lib.Dec.{ltb, eqb}
 use borrow.Author.Tests.{ltb-true, ltb-false, eqb-true, eqb-false, eq-eqb}
+use Rattle.std.proofs.lemmas.Bool.{cases_Bool, both_ways, and_from, and_parts, cond-true, cond_both}
 use Rattle.limits.specs.Limits.{source_room, most_edges}
-use Rattle.laws.proofs.Truth.{dichotomy, not_so, and_intro, and_left, and_right, cond_so, cond_elim}
 use Rattle.model.specs.declared.Shape.{Shape}
 use Rattle.model.specs.declared.Requests.{Requests}
 use Rattle.model.specs.declared.State.{State}
@@ -29,15 +29,15 @@ module _ (h : Shape) (clock i prio claimed waited : ℕ) (source : So (is_source
   unfolding raised is_pending is_idle open_age
   raised_fine r₀ r f most counting = record {
     kind = f.kind;
-    absent = λ e. absurd (not_so e source);
+    absent = λ e. absurd (both_ways _ e source);
     priorities = f.priorities;
     stage = omega arith;
     start = omega arith;
-    startless = λ e. absurd (not_so e refl);
+    startless = λ e. absurd (both_ways _ e refl);
     extra = most;
     counting = counting;
-    edgeless = λ e. absurd (not_so refl e);
-    level = λ k e. absurd (not_so refl e);
+    edgeless = λ e. absurd (both_ways _ refl e);
+    level = λ k e. absurd (both_ways _ refl e);
     waits = omega (arith, f.waits);
   }
 
@@ -46,7 +46,7 @@ module _ (h : Shape) (clock i prio claimed waited : ℕ) (source : So (is_source
   unfolding line_at is_pending is_idle open_age
   line_fine v r f level = record {
     kind = f.kind;
-    absent = λ e. absurd (not_so e source);
+    absent = λ e. absurd (both_ways _ e source);
     priorities = f.priorities;
     stage = f.stage;
     start = f.start;
@@ -62,15 +62,15 @@ module _ (h : Shape) (clock i prio claimed waited : ℕ) (source : So (is_source
   unfolding edge_counted is_pending is_idle open_age
   counted_fine r f busy two = record {
     kind = f.kind;
-    absent = λ e. absurd (not_so e source);
+    absent = λ e. absurd (both_ways _ e source);
     priorities = f.priorities;
     stage = f.stage;
     start = f.start;
     startless = f.startless;
-    extra = cond_elim (λ x. x ≤ most_edges) (ltb r.extra most_edges) (λ t. omega (arith, ltb-true r.extra most_edges t)) (λ _. f.extra);
+    extra = cond_both (ltb r.extra most_edges) _ _ (λ x. x ≤ most_edges) (λ t. omega (arith, ltb-true r.extra most_edges t)) (λ _. f.extra);
     counting = λ ne. absurd (ne two);
-    edgeless = λ e. absurd (not_so busy e);
-    level = λ _ e. absurd (not_so busy e);
+    edgeless = λ e. absurd (both_ways _ busy e);
+    level = λ _ e. absurd (both_ways _ busy e);
     waits = f.waits;
   }
 
@@ -82,14 +82,14 @@ module _ (h : Shape) (clock i prio claimed waited : ℕ) (source : So (is_source
     -- "Level. Idle with the line high becomes pending at once."
     level_fine : Fine (level_changed clock v r)
     unfolding level_changed
-    level_fine = cond_elim Fine (is_idle r && v) (λ _. line_raised)
-        (λ t. line_fine v r f (λ _ a b. not_so t (and_intro a b)))
+    level_fine = cond_both (is_idle r && v) _ _ Fine (λ _. line_raised)
+        (λ t. line_fine v r f (λ _ a b. both_ways _ t (and_from _ _ a b)))
 
     edge_fine : kind_of h i ≢ 0 → Fine (edge_changed (kind_of h i) clock v r)
     unfolding edge_changed
-    edge_fine edge = cond_elim Fine (not r.line && v)
-        (λ _. cond_elim Fine (is_idle r) (λ _. line_raised)
-        (λ busy. cond_elim Fine (eqb (kind_of h i) 2)
+    edge_fine edge = cond_both (not r.line && v) _ _ Fine
+        (λ _. cond_both (is_idle r) _ _ Fine (λ _. line_raised)
+        (λ busy. cond_both (eqb (kind_of h i) 2) _ _ Fine
         (λ two. counted_fine (line_at v r) quiet (line_busy busy) (eqb-true _ _ two))
         (λ _. quiet)))
         (λ _. quiet)
@@ -102,7 +102,7 @@ module _ (h : Shape) (clock i prio claimed waited : ℕ) (source : So (is_source
 
     pub line_kept : Fine (line_changed (kind_of h i) clock v r)
     unfolding line_changed
-    line_kept = cond_elim Fine (eqb (kind_of h i) 0) (λ _. level_fine) (λ t. edge_fine (eqb-false _ _ t))
+    line_kept = cond_both (eqb (kind_of h i) 0) _ _ Fine (λ _. level_fine) (λ t. edge_fine (eqb-false _ _ t))
 
   -- "It goes into service and its wait is booked."
   pub served_kept : (r : Request) → Fine r → So (is_pending r) →
@@ -110,23 +110,23 @@ module _ (h : Shape) (clock i prio claimed waited : ℕ) (source : So (is_source
   unfolding served wait is_pending is_idle open_age
   served_kept r f pending = record {
     kind = f.kind;
-    absent = λ e. absurd (not_so e source);
+    absent = λ e. absurd (both_ways _ e source);
     priorities = f.priorities;
     stage = omega arith;
     start = omega arith;
     startless = λ _. refl;
     extra = f.extra;
     counting = f.counting;
-    edgeless = λ e. absurd (not_so refl e);
-    level = λ _ e. absurd (not_so refl e);
-    waits = omega (arith, f.waits, cond_so (clock - r.start) 0 pending);
+    edgeless = λ e. absurd (both_ways _ refl e);
+    level = λ _ e. absurd (both_ways _ refl e);
+    waits = omega (arith, f.waits, cond-true _ (clock - r.start) 0 pending);
   }
 
   idled_fine : (r : Request) → Fine r → r.extra ≡ 0 → (kind_of h i ≡ 0 → So r.line → ⊥) → Fine (idled r)
   unfolding idled is_pending is_idle open_age
   idled_fine r f none low = record {
     kind = f.kind;
-    absent = λ e. absurd (not_so e source);
+    absent = λ e. absurd (both_ways _ e source);
     priorities = f.priorities;
     stage = omega arith;
     start = omega arith;
@@ -141,39 +141,39 @@ module _ (h : Shape) (clock i prio claimed waited : ℕ) (source : So (is_source
   -- "Taking effect, the source is idle; then .. pending again in the same step."
   pub completed_kept : (r : Request) → Fine r → Fine (completed (kind_of h i) clock r)
   unfolding completed
-  completed_kept r f = cond_elim Fine (eqb (kind_of h i) 0 && r.line)
+  completed_kept r f = cond_both (eqb (kind_of h i) 0 && r.line) _ _ Fine
       (λ _. raised_fine r r f f.extra f.counting)
-      (λ low. cond_elim Fine (eqb (kind_of h i) 2 && ltb 0 r.extra)
+      (λ low. cond_both (eqb (kind_of h i) 2 && ltb 0 r.extra) _ _ Fine
       (λ more. taken more)
-      (λ none. idled_fine r f (spent none) (λ k l. not_so low (and_intro (eq-eqb _ _ k) l))))
+      (λ none. idled_fine r f (spent none) (λ k l. both_ways _ low (and_from _ _ (eq-eqb _ _ k) l))))
     where
       taken : So (eqb (kind_of h i) 2 && ltb 0 r.extra) → Fine (raised clock (edge_taken r))
       taken more = unfold edge_taken in raised_fine r (edge_taken r) f (omega (arith, f.extra))
-          (λ ne. absurd (ne (eqb-true _ _ (and_left (eqb (kind_of h i) 2) _ more))))
+          (λ ne. absurd (ne (eqb-true _ _ (and_parts (eqb (kind_of h i) 2) _ more).0)))
 
       spent : (eqb (kind_of h i) 2 && ltb 0 r.extra) ≡ false → r.extra ≡ 0
       spent none = ⊎_elim
-          (λ two. ⊎_elim (λ (t : So (ltb 0 r.extra)). absurd (not_so none (and_intro two t)))
-          (λ t. omega (arith, ltb-false 0 r.extra t)) (dichotomy (ltb 0 r.extra)))
+          (λ two. ⊎_elim (λ (t : So (ltb 0 r.extra)). absurd (both_ways _ none (and_from _ _ two t)))
+          (λ t. omega (arith, ltb-false 0 r.extra t)) (cases_Bool (ltb 0 r.extra)))
           (λ other. f.counting (eqb-false _ _ other))
-          (dichotomy (eqb (kind_of h i) 2))
+          (cases_Bool (eqb (kind_of h i) 2))
 
 -- a completion leaves the line as it is
 pub completed_line : (kind clock : ℕ) (r : Request) → (completed kind clock r).line ≡ r.line
 unfolding completed raised edge_taken idled
 completed_line kind clock r =
-    cond_elim (λ (k : Request). k.line ≡ r.line) (eqb kind 0 && r.line) (λ _. refl)
-    (λ _. cond_elim (λ (k : Request). k.line ≡ r.line) (eqb kind 2 && ltb 0 r.extra) (λ _. refl) (λ _. refl))
+    cond_both (eqb kind 0 && r.line) _ _ (λ (k : Request). k.line ≡ r.line) (λ _. refl)
+    (λ _. cond_both (eqb kind 2 && ltb 0 r.extra) _ _ (λ (k : Request). k.line ≡ r.line) (λ _. refl) (λ _. refl))
 
 -- "Repeating the present level has no effect"
 repeated : (h : Shape) (clock i prio claimed waited : ℕ) (r : Request) → SoundSource h clock i prio claimed waited r → line_changed (kind_of h i) clock r.line r ≡ r
 unfolding line_changed level_changed edge_changed line_at
 repeated h clock i prio claimed waited r f =
-    cond_elim (λ k. k ≡ r) (eqb (kind_of h i) 0)
-    (λ level. cond_elim (λ k. k ≡ r) (is_idle r && r.line)
-    (λ t. absurd (f.level (eqb-true _ _ level) (and_left (is_idle r) _ t) (and_right (is_idle r) _ t)))
+    cond_both (eqb (kind_of h i) 0) _ _ (λ k. k ≡ r)
+    (λ level. cond_both (is_idle r && r.line) _ _ (λ k. k ≡ r)
+    (λ t. absurd (f.level (eqb-true _ _ level) (and_parts (is_idle r) _ t).0 (and_parts (is_idle r) _ t).1))
     (λ _. refl))
-    (λ _. cond_elim (λ k. k ≡ r) (not r.line && r.line) (λ t. absurd (not_so (not-and_self r.line) t)) (λ _. refl))
+    (λ _. cond_both (not r.line && r.line) _ _ (λ k. k ≡ r) (λ t. absurd (both_ways _ (not-and_self r.line) t)) (λ _. refl))
 
 pub repeat_level : (s : State) → Sound s → (i : ℕ) → i < source_room → line_change s i (request s.requests i).line ≡ s
 unfolding line_change with_request

@@ -10,10 +10,10 @@ use lib.Dec.{leb, ltb, eqb}
 use lib.ListN.{length, get_or, replicate, length-replicate, get_or-replicate, length-append, get_or-append}
 use lib.Seq.{get_or-append-add}
 use borrow.Author.Tests.{leb-true, leb-false, eqb-true, eqb-false, ltb-true, ltb-false}
+use Rattle.std.proofs.lemmas.Bool.{cases_Bool, both_ways, false_from_ne_true, not-true, and_from, and_parts}
 use Rattle.limits.specs.Limits.{source_room, last_source, context_room, word_room, enable_room, bucket_room, most_bits}
 use Rattle.laws.specs.Fold.{all_to}
 use Rattle.laws.specs.Bits.{bit}
-use Rattle.laws.proofs.Truth.{dichotomy, not_so, so_not, fails, and_intro, and_left, and_right}
 use Rattle.laws.proofs.Fold.{all_at, sum_zero}
 use Rattle.laws.proofs.Bits.{bit_above}
 use Rattle.model.specs.declared.Shape.{Shape}
@@ -44,12 +44,12 @@ module _ (n c b : ℕ) (kinds : List ℕ) (limits : WithinLimits n c b) (long : 
       let inside : i < length kinds = omega (arith, ltb-true i n t) in
       let kind_is : get_or (kinds ++ replicate (last_source - length kinds) 0) i 0 ≡ get_or kinds i 0 = get_or-append kinds _ 0 i inside in (
         omega (arith, kind_is, right i inside),
-        λ e. absurd (not_so e (range_source n (suc i) (omega arith) (omega (arith, ltb-true i n t)))),
+        λ e. absurd (both_ways _ e (range_source n (suc i) (omega arith) (omega (arith, ltb-true i n t)))),
       ))
       (λ t.
       let zero_is : get_or (kinds ++ replicate (last_source - length kinds) 0) i 0 ≡ 0 = past i l (ltb-false i n t) in
       (omega (arith, zero_is), λ _. zero_is))
-      (dichotomy (ltb i n))
+      (cases_Bool (ltb i n))
     where
       past : (i : ℕ) → suc i < source_room → n ≤ i → get_or (kinds ++ replicate (last_source - length kinds) 0) i 0 ≡ 0
       past i l k =
@@ -93,7 +93,7 @@ module _ (n c b : ℕ) (kinds : List ℕ) (limits : WithinLimits n c b) (long : 
     extra = omega arith;
     counting = λ _. refl;
     edgeless = λ _. refl;
-    level = λ _ _ t. not_so refl t;
+    level = λ _ _ t. both_ways _ refl t;
     waits = omega arith;
   }
 
@@ -103,7 +103,7 @@ module _ (n c b : ℕ) (kinds : List ℕ) (limits : WithinLimits n c b) (long : 
     absent_threshold = λ _. get_or-replicate context_room d 0 0 l;
     absent_enables = λ _ w k. get_or-replicate enable_room (d * word_room + w) 0 0 (omega arith);
     thresholds = omega (arith, get_or-replicate {A = ℕ} context_room d 0 0 l);
-    enables = λ w j k t. absurd (not_so (bit_above 0 0 j (omega arith) (omega arith))
+    enables = λ w j k t. absurd (both_ways _ (bit_above 0 0 j (omega arith) (omega arith))
         (subst (λ (x : ℕ). So (bit x j)) (get_or-replicate enable_room (d * word_room + w) 0 0 (omega arith)) t));
   }
 
@@ -171,15 +171,15 @@ unfolding kinds_for
 made_sound n c b kinds e = ⊎_elim
     (λ t.
     let made = (made_when n c b kinds t).1 in
-    let kinds_right = and_right (within_limits n c b) (kinds_for n kinds) t in (
+    let kinds_right = (and_parts (within_limits n c b) (kinds_for n kinds) t).1 in (
       made,
       subst Sound (sym made) (unfold h in fresh_sound n c b kinds
-          (limits_facts n c b (and_left (within_limits n c b) (kinds_for n kinds) t))
-          (eqb-true (length kinds) n (and_left (eqb (length kinds) n) _ kinds_right))
-          (λ i l. leb-true (get_or kinds i 0) 2 (all_at _ (length kinds) (and_right (eqb (length kinds) n) _ kinds_right) i l))),
+          (limits_facts n c b (and_parts (within_limits n c b) (kinds_for n kinds) t).0)
+          (eqb-true (length kinds) n (and_parts (eqb (length kinds) n) _ kinds_right).0)
+          (λ i l. leb-true (get_or kinds i 0) 2 (all_at _ (length kinds) (and_parts (eqb (length kinds) n) _ kinds_right).1 i l))),
     ))
     (λ t. absurd (omega (arith, e, (unmade_when n c b kinds t).0)))
-    (dichotomy (within_limits n c b && kinds_for n kinds))
+    (cases_Bool (within_limits n c b && kinds_for n kinds))
 
 -- "1 returns a state that is zero throughout"
 pub unmade_zero : (n c b : ℕ) (kinds : List ℕ) → (make n c b kinds).number ≢ 0 →
@@ -187,7 +187,7 @@ pub unmade_zero : (n c b : ℕ) (kinds : List ℕ) → (make n c b kinds).number
 unmade_zero n c b kinds ne = ⊎_elim
     (λ t. absurd (ne (made_when n c b kinds t).0))
     (unmade_when n c b kinds)
-    (dichotomy (within_limits n c b && kinds_for n kinds))
+    (cases_Bool (within_limits n c b && kinds_for n kinds))
 
 -- the row of 1: "N, C or b outside its range, not exactly N kind bytes, or a kind above 2"
 pub data Misshapen (n c b : ℕ) (kinds : List ℕ) : Type 0 where
@@ -198,23 +198,23 @@ pub data Misshapen (n c b : ℕ) (kinds : List ℕ) : Type 0 where
   kind : (i : ℕ) → i < length kinds → 2 < get_or kinds i 0 → Misshapen n c b kinds
 
 in_or_out : (most x : ℕ) → ((1 ≤ x) × (x ≤ most)) ⊎ ((x ≡ 0) ⊎ (most < x))
-in_or_out most x = ⊎_map (source_range most x) (λ t. (outside_iff most x).0 (ap not t)) (dichotomy (is_source most x))
+in_or_out most x = ⊎_map (source_range most x) (λ t. (outside_iff most x).0 (ap not t)) (cases_Bool (is_source most x))
 
 not_out : (most x : ℕ) → (1 ≤ x) × (x ≤ most) → (x ≡ 0) ⊎ (most < x) → ⊥
-not_out most x h o = not_so (fails _ ((outside_iff most x).1 o)) (range_source most x h.0 h.1)
+not_out most x h o = both_ways _ (not-true _ ((outside_iff most x).1 o)) (range_source most x h.0 h.1)
 
 -- a test that fails of all fails of one
 fails_at : (f : ℕ → Bool) (n : ℕ) → all_to f n ≡ false → (i : ℕ) × (i < n) × (f i ≡ false)
 unfolding all_to
-fails_at f zero e = absurd (not_so e refl)
+fails_at f zero e = absurd (both_ways _ e refl)
 fails_at f (suc n) e = ⊎_elim
-    (λ (t : So (all_to f n)). (n, omega arith, so_not (f n) (λ k. not_so e (and_intro t k))))
+    (λ (t : So (all_to f n)). (n, omega arith, false_from_ne_true (f n) (λ k. both_ways _ e (and_from _ _ t k))))
     (λ t. let one = fails_at f n t in (one.0, omega (arith, one.1), one.2))
-    (dichotomy (all_to f n))
+    (cases_Bool (all_to f n))
 
 pub bad_shape_iff : (n c b : ℕ) (kinds : List ℕ) → ((make n c b kinds).number ≡ 1) ↔ Misshapen n c b kinds
 unfolding kinds_for
-bad_shape_iff n c b kinds = (refused, (λ m. (unmade_when n c b kinds (so_not _ (λ t. never m t))).0))
+bad_shape_iff n c b kinds = (refused, (λ m. (unmade_when n c b kinds (false_from_ne_true _ (λ t. never m t))).0))
   where
     right : Bool
     right = all_to (λ i. leb (get_or kinds i 0) 2) (length kinds)
@@ -223,11 +223,11 @@ bad_shape_iff n c b kinds = (refused, (λ m. (unmade_when n c b kinds (so_not _ 
     by_kinds : WithinLimits n c b → (make n c b kinds).number ≡ 1 → Misshapen n c b kinds
     by_kinds limits e = ⊎_elim
         (λ (long : So (eqb (length kinds) n)). ⊎_elim
-        (λ (t : So right). absurd (omega (arith, e, (made_when n c b kinds (and_intro (limits_test n c b limits) (and_intro long t))).0)))
+        (λ (t : So right). absurd (omega (arith, e, (made_when n c b kinds (and_from _ _ (limits_test n c b limits) (and_from _ _ long t))).0)))
         (λ t. let one = fails_at _ (length kinds) t in kind one.0 one.1 (leb-false (get_or kinds one.0 0) 2 one.2))
-        (dichotomy right))
+        (cases_Bool right))
         (λ long. count (eqb-false (length kinds) n long))
-        (dichotomy (eqb (length kinds) n))
+        (cases_Bool (eqb (length kinds) n))
 
     refused : (make n c b kinds).number ≡ 1 → Misshapen n c b kinds
     refused e = ⊎_elim
@@ -240,14 +240,14 @@ bad_shape_iff n c b kinds = (refused, (λ m. (unmade_when n c b kinds (so_not _ 
     never m t = wrong m
       where
         limits : WithinLimits n c b
-        limits = limits_facts n c b (and_left (within_limits n c b) (kinds_for n kinds) t)
+        limits = limits_facts n c b (and_parts (within_limits n c b) (kinds_for n kinds) t).0
 
         these : So (kinds_for n kinds)
-        these = and_right (within_limits n c b) (kinds_for n kinds) t
+        these = (and_parts (within_limits n c b) (kinds_for n kinds) t).1
 
         wrong : Misshapen n c b kinds → ⊥
         wrong (sources o) = not_out last_source n limits.sources o
         wrong (contexts o) = not_out context_room c limits.contexts o
         wrong (bits o) = not_out most_bits b limits.bits o
-        wrong (count ne) = ne (eqb-true (length kinds) n (and_left (eqb (length kinds) n) right these))
-        wrong (kind i l h) = omega (arith, h, leb-true (get_or kinds i 0) 2 (all_at _ (length kinds) (and_right (eqb (length kinds) n) right these) i l))
+        wrong (count ne) = ne (eqb-true (length kinds) n (and_parts (eqb (length kinds) n) right these).0)
+        wrong (kind i l h) = omega (arith, h, leb-true (get_or kinds i 0) 2 (all_at _ (length kinds) (and_parts (eqb (length kinds) n) right these).1 i l))

@@ -7,8 +7,8 @@ use Prim.Native.Nat.{ℕ, ◌+◌, ◌-◌, ◌<◌}
 use native.Mathlib.Omega.{arith}
 use lib.Dec.{ltb, eqb}
 use borrow.Author.Tests.{ltb-true, ltb-false, lt-ltb, le-ltb, eqb-true, eqb-false, eq-eqb, ne_eqb}
+use Rattle.std.proofs.lemmas.Bool.{cases_Bool, both_ways, false_from_ne_true, and_from, and_parts, and_right, cond-true, cond-false, cond_both}
 use Rattle.limits.specs.Limits.{source_room, most_edges}
-use Rattle.laws.proofs.Truth.{dichotomy, not_so, so_not, and_intro, and_left, and_right, and_fails_right, cond_so, cond_not, cond_elim}
 use Rattle.laws.specs.Fold.{all_of}
 use Rattle.laws.proofs.Fold.{test_at}
 use Rattle.model.specs.declared.State.{State}
@@ -27,7 +27,7 @@ pub takes_effect_iff : (s : State) (c v : ℕ) → So (takes_effect s c v) ↔ T
 unfolding takes_effect
 takes_effect_iff s c v = (
   (λ t. record { source = test_at _ t 0; enable = test_at _ t 1; service = test_at _ t 2 }),
-  (λ f. unfold all_of in and_intro f.source (and_intro f.enable (and_intro f.service refl))),
+  (λ f. unfold all_of in and_from _ _ f.source (and_from _ _ f.enable (and_from _ _ f.service refl))),
 )
 
 -- a request whose line alone may have changed
@@ -68,37 +68,37 @@ module _ (s : State) (sound : Sound s) (i : ℕ) (source : So (is_source s.shape
   pub level_high : kind_of s.shape i ≡ 0 → So (is_idle now) → PendingFrom s.clock (lined true)
   unfolding line_changed level_changed
   level_high level idle =
-      subst (PendingFrom s.clock) (sym (lined_is true ∙ cond_so _ _ (eq-eqb _ 0 level) ∙ cond_so _ _ (and_intro idle refl)))
+      subst (PendingFrom s.clock) (sym (lined_is true ∙ cond-true _ _ _ (eq-eqb _ 0 level) ∙ cond-true _ _ _ (and_from _ _ idle refl)))
       (raised_from (line_at true now))
 
   -- "Lowering the line never withdraws a request": whatever the kind, it changes the line alone
   pub lowering_keeps : SameButLine now (lined false)
   unfolding line_changed level_changed edge_changed
   lowering_keeps = subst (SameButLine now) (sym (lined_is false))
-      (cond_elim (SameButLine now) (eqb (kind_of s.shape i) 0)
-      (λ _. cond_elim (SameButLine now) (is_idle now && false) (λ t. absurd (not_so (and_fails_right (is_idle now) refl) t)) (λ _. line_alone false))
-      (λ _. cond_elim (SameButLine now) (not now.line && false) (λ t. absurd (not_so (and_fails_right (not now.line) refl) t)) (λ _. line_alone false)))
+      (cond_both (eqb (kind_of s.shape i) 0) _ _ (SameButLine now)
+      (λ _. cond_both (is_idle now && false) _ _ (SameButLine now) (λ t. absurd (both_ways _ (and_right (is_idle now) _ refl) t)) (λ _. line_alone false))
+      (λ _. cond_both (not now.line && false) _ _ (SameButLine now) (λ t. absurd (both_ways _ (and_right (not now.line) _ refl) t)) (λ _. line_alone false)))
 
   module _ (edge : kind_of s.shape i ≢ 0) where
     edge_is : (v : Bool) → lined v ≡ edge_changed (kind_of s.shape i) s.clock v now
     unfolding line_changed
-    edge_is v = lined_is v ∙ cond_not _ _ (ne_eqb _ 0 edge)
+    edge_is v = lined_is v ∙ cond-false _ _ _ (ne_eqb _ 0 edge)
 
     rise_is : now.line ≡ false →
         lined true ≡ cond (is_idle now) (raised s.clock (line_at true now))
         (cond (eqb (kind_of s.shape i) 2) (edge_counted (line_at true now)) (line_at true now))
     unfolding edge_changed
-    rise_is low = edge_is true ∙ cond_so _ _ (and_intro (ap not low) refl)
+    rise_is low = edge_is true ∙ cond-true _ _ _ (and_from _ _ (ap not low) refl)
 
     -- "Edge. A change from low to high makes an idle source pending."
     pub edge_rises : now.line ≡ false → So (is_idle now) → PendingFrom s.clock (lined true)
-    edge_rises low idle = subst (PendingFrom s.clock) (sym (rise_is low ∙ cond_so _ _ idle)) (raised_from (line_at true now))
+    edge_rises low idle = subst (PendingFrom s.clock) (sym (rise_is low ∙ cond-true _ _ _ idle)) (raised_from (line_at true now))
 
   -- "Otherwise kind 1 ignores it .."
   pub edge_ignored : kind_of s.shape i ≡ 1 → now.line ≡ false → is_idle now ≡ false → SameButLine now (lined true)
   edge_ignored one low busy =
       let not_two = ne_eqb (kind_of s.shape i) 2 (λ e. omega (arith, e, one)) in
-      subst (SameButLine now) (sym (rise_is (λ e. omega (arith, e, one)) low ∙ cond_not _ _ busy ∙ cond_not _ _ not_two)) (line_alone true)
+      subst (SameButLine now) (sym (rise_is (λ e. omega (arith, e, one)) low ∙ cond-false _ _ _ busy ∙ cond-false _ _ _ not_two)) (line_alone true)
 
   -- ".. and kind 2 adds one to its extra edges, staying at 255 once there."
   pub edge_is_counted : kind_of s.shape i ≡ 2 → now.line ≡ false → is_idle now ≡ false →
@@ -108,21 +108,21 @@ module _ (s : State) (sound : Sound s) (i : ℕ) (source : So (is_source s.shape
   edge_is_counted two low busy = (
     ap (λ (r : Request). r.stage) is,
     ap (λ (r : Request). r.start) is,
-    (λ h. ap (λ (r : Request). r.extra) is ∙ cond_so _ _ (lt-ltb now.extra most_edges h)),
-    (λ e. ap (λ (r : Request). r.extra) is ∙ cond_not _ _ (le-ltb now.extra most_edges (omega arith)) ∙ e),
+    (λ h. ap (λ (r : Request). r.extra) is ∙ cond-true _ _ _ (lt-ltb now.extra most_edges h)),
+    (λ e. ap (λ (r : Request). r.extra) is ∙ cond-false _ _ _ (le-ltb now.extra most_edges (omega arith)) ∙ e),
   )
     where
       is : lined true ≡ edge_counted (line_at true now)
-      is = rise_is (λ e. omega (arith, e, two)) low ∙ cond_not _ _ busy ∙ cond_so _ _ (eq-eqb _ 2 two)
+      is = rise_is (λ e. omega (arith, e, two)) low ∙ cond-false _ _ _ busy ∙ cond-true _ _ _ (eq-eqb _ 2 two)
 
   -- the line is then as it was set
   pub line_is_set : (v : Bool) → (lined v).line ≡ v
   unfolding line_changed level_changed edge_changed raised edge_counted line_at
   line_is_set v = ap (λ (r : Request). r.line) (lined_is v) ∙
-      cond_elim At (eqb (kind_of s.shape i) 0)
-      (λ _. cond_elim At (is_idle now && v) (λ _. refl) (λ _. refl))
-      (λ _. cond_elim At (not now.line && v)
-      (λ _. cond_elim At (is_idle now) (λ _. refl) (λ _. cond_elim At (eqb (kind_of s.shape i) 2) (λ _. refl) (λ _. refl)))
+      cond_both (eqb (kind_of s.shape i) 0) _ _ At
+      (λ _. cond_both (is_idle now && v) _ _ At (λ _. refl) (λ _. refl))
+      (λ _. cond_both (not now.line && v) _ _ At
+      (λ _. cond_both (is_idle now) _ _ At (λ _. refl) (λ _. cond_both (eqb (kind_of s.shape i) 2) _ _ At (λ _. refl) (λ _. refl)))
       (λ _. refl))
     where
       At : Request → Type 0
@@ -151,14 +151,14 @@ Again kind r = ((kind ≡ 0) × So r.line) ⊎ ((kind ≡ 2) × (0 < r.extra))
 -- "Otherwise it is silently ignored, also while v is still pending"
 pub completion_ignored : (s : State) (c v : ℕ) → (TakesEffect s c v → ⊥) → after_write s (Claim c) v ≡ s
 unfolding after_write complete_by
-completion_ignored s c v not = cond_not _ _ (so_not (takes_effect s c v) (λ t. not ((takes_effect_iff s c v).0 t)))
+completion_ignored s c v not = cond-false _ _ _ (false_from_ne_true (takes_effect s c v) (λ t. not ((takes_effect_iff s c v).0 t)))
 
 -- taking effect, it touches no other source
 pub completion_others : (s : State) (c v : ℕ) → TakesEffect s c v → (j : ℕ) → j ≢ v →
     request (after_write s (Claim c) v).requests j ≡ request s.requests j
 unfolding after_write complete_by
 completion_others s c v takes j ne =
-    ap (λ (t : State). request t.requests j) (cond_so _ _ ((takes_effect_iff s c v).1 takes))
+    ap (λ (t : State). request t.requests j) (cond-true _ _ _ ((takes_effect_iff s c v).1 takes))
     ∙ (unfold with_request in request_other s.requests v _ j ne)
 
 module _ (s : State) (sound : Sound s) (c v : ℕ) where
@@ -171,7 +171,7 @@ module _ (s : State) (sound : Sound s) (c v : ℕ) where
 
     done_is : done ≡ completed (kind_of s.shape v) s.clock was
     unfolding after_write complete_by
-    done_is = ap (λ (t : State). request t.requests v) (cond_so _ _ ((takes_effect_iff s c v).1 takes))
+    done_is = ap (λ (t : State). request t.requests v) (cond-true _ _ _ ((takes_effect_iff s c v).1 takes))
         ∙ (unfold with_request in request_same s.requests v _ sound.types.requests (here s sound v takes.source))
 
     done_by : (P : Request → Type 0) → (So (eqb (kind_of s.shape v) 0 && was.line) → P (raised s.clock was)) →
@@ -180,14 +180,14 @@ module _ (s : State) (sound : Sound s) (c v : ℕ) where
         P done
     unfolding completed
     done_by P level more none = subst P (sym done_is)
-        (cond_elim P (eqb (kind_of s.shape v) 0 && was.line) level
-        (λ e. cond_elim P (eqb (kind_of s.shape v) 2 && ltb 0 was.extra) more (none e)))
+        (cond_both (eqb (kind_of s.shape v) 0 && was.line) _ _ P level
+        (λ e. cond_both (eqb (kind_of s.shape v) 2 && ltb 0 was.extra) _ _ P more (none e)))
 
     again_level : So (eqb (kind_of s.shape v) 0 && was.line) → Again (kind_of s.shape v) was
-    again_level t = inl (eqb-true _ 0 (and_left _ was.line t), and_right (eqb (kind_of s.shape v) 0) _ t)
+    again_level t = inl (eqb-true _ 0 (and_parts _ was.line t).0, (and_parts (eqb (kind_of s.shape v) 0) _ t).1)
 
     again_more : So (eqb (kind_of s.shape v) 2 && ltb 0 was.extra) → Again (kind_of s.shape v) was
-    again_more t = inr (eqb-true _ 2 (and_left _ (ltb 0 was.extra) t), ltb-true 0 was.extra (and_right (eqb (kind_of s.shape v) 2) _ t))
+    again_more t = inr (eqb-true _ 2 (and_parts _ (ltb 0 was.extra) t).0, ltb-true 0 was.extra (and_parts (eqb (kind_of s.shape v) 2) _ t).1)
 
     -- "Taking effect, the source is idle; then .."
     pub completed_idle : (Again (kind_of s.shape v) was → ⊥) → So (is_idle done)
@@ -197,8 +197,8 @@ module _ (s : State) (sound : Sound s) (c v : ℕ) where
     pub completed_again : Again (kind_of s.shape v) was → PendingFrom s.clock done
     completed_again again = done_by (PendingFrom s.clock) (λ _. from was) (λ _. from (edge_taken was))
         (λ high more. absurd (⊎_elim
-        (λ (a : (kind_of s.shape v ≡ 0) × So was.line). not_so high (and_intro (eq-eqb _ 0 a.0) a.1))
-        (λ a. not_so more (and_intro (eq-eqb _ 2 a.0) (lt-ltb 0 was.extra a.1)))
+        (λ (a : (kind_of s.shape v ≡ 0) × So was.line). both_ways _ high (and_from _ _ (eq-eqb _ 0 a.0) a.1))
+        (λ a. both_ways _ more (and_from _ _ (eq-eqb _ 2 a.0) (lt-ltb 0 was.extra a.1)))
         again))
       where
         from : (r : Request) → PendingFrom s.clock (raised s.clock r)
@@ -208,13 +208,13 @@ module _ (s : State) (sound : Sound s) (c v : ℕ) where
     pub completed_fewer : kind_of s.shape v ≡ 2 → done.extra ≡ was.extra - 1
     unfolding raised edge_taken idled
     completed_fewer two = done_by (λ r. r.extra ≡ was.extra - 1)
-        (λ t. absurd (omega (arith, two, eqb-true (kind_of s.shape v) 0 (and_left _ was.line t))))
+        (λ t. absurd (omega (arith, two, eqb-true (kind_of s.shape v) 0 (and_parts _ was.line t).0)))
         (λ _. refl)
         (λ _ more. omega (arith, none more))
       where
         none : (eqb (kind_of s.shape v) 2 && ltb 0 was.extra) ≡ false → was.extra ≡ 0
-        none more = ⊎_elim (λ (t : So (ltb 0 was.extra)). absurd (not_so more (and_intro (eq-eqb _ 2 two) t)))
-            (λ t. omega (arith, ltb-false 0 was.extra t)) (dichotomy (ltb 0 was.extra))
+        none more = ⊎_elim (λ (t : So (ltb 0 was.extra)). absurd (both_ways _ more (and_from _ _ (eq-eqb _ 2 two) t)))
+            (λ t. omega (arith, ltb-false 0 was.extra t)) (cases_Bool (ltb 0 was.extra))
 
   -- "Completion by c with value v (all 32 bits)": a source in service leaves it exactly if v, uncut, is its ID and it takes effect
   pub completion_written : (i : ℕ) → So (is_in_service (request s.requests i)) →
@@ -223,9 +223,9 @@ module _ (s : State) (sound : Sound s) (c v : ℕ) where
     (λ out. ⊎_elim
         (λ (t : So (takes_effect s c v)).
         let takes = (takes_effect_iff s c v).0 t in
-        (⊎_elim (λ (e : So (eqb v i)). eqb-true v i e) (λ e. absurd (stays out (completion_others s c v takes i (λ k. eqb-false v i e (sym k))))) (dichotomy (eqb v i)), takes))
-        (λ t. absurd (stays out (ap (λ (k : State). request k.requests i) (completion_ignored s c v (λ f. not_so t ((takes_effect_iff s c v).1 f))))))
-        (dichotomy (takes_effect s c v))),
+        (⊎_elim (λ (e : So (eqb v i)). eqb-true v i e) (λ e. absurd (stays out (completion_others s c v takes i (λ k. eqb-false v i e (sym k))))) (cases_Bool (eqb v i)), takes))
+        (λ t. absurd (stays out (ap (λ (k : State). request k.requests i) (completion_ignored s c v (λ f. both_ways _ t ((takes_effect_iff s c v).1 f))))))
+        (cases_Bool (takes_effect s c v))),
     (λ f. subst (λ (k : ℕ). is_in_service (request (after_write s (Claim c) v).requests k) ≡ false) f.0
         (done_by f.1 (λ r. is_in_service r ≡ false) (λ _. unfold raised is_in_service in refl) (λ _. unfold raised is_in_service in refl)
         (λ _ _. unfold idled is_in_service in refl))),
@@ -235,4 +235,4 @@ module _ (s : State) (sound : Sound s) (c v : ℕ) where
       after = request (after_write s (Claim c) v).requests i
 
       stays : is_in_service after ≡ false → after ≡ request s.requests i → ⊥
-      stays out same = not_so out (subst (λ (r : Request). So (is_in_service r)) (sym same) service)
+      stays out same = both_ways _ out (subst (λ (r : Request). So (is_in_service r)) (sym same) service)

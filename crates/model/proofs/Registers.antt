@@ -9,9 +9,9 @@ use native.Mathlib.Omega.{arith}
 use lib.Dec.{ltb, eqb}
 use lib.Seq.{get_or-set_same}
 use borrow.Author.Tests.{leb-true, ltb-true, ltb-false, lt-ltb, le-ltb, eqb-true}
+use Rattle.std.proofs.lemmas.Bool.{cases_Bool, both_ways, and_from, and_parts, cond-true, cond-false}
 use Rattle.limits.specs.Limits.{source_room, last_source, context_room, word_room}
 use Rattle.laws.specs.Bits.{bit, packed}
-use Rattle.laws.proofs.Truth.{dichotomy, not_so, and_intro, and_left, and_right, cond_so, cond_not}
 use Rattle.laws.proofs.Bits.{bit_packed}
 use Rattle.model.specs.declared.State.{State}
 use Rattle.model.specs.declared.Register.{Register}
@@ -39,22 +39,22 @@ Wide n m = (n ≤ last_source) × (m ≤ context_room)
 module _ (n m off : ℕ) where
   in_priorities : off < 0x1000 → decode n m off ≡ priority_at n (off / 4)
   unfolding decode
-  in_priorities a = cond_so _ _ (lt-ltb off 0x1000 a)
+  in_priorities a = cond-true _ _ _ (lt-ltb off 0x1000 a)
 
   in_pending : 0x1000 ≤ off → off < 0x2000 → decode n m off ≡ pending_at n ((off - 0x1000) / 4)
   unfolding decode
-  in_pending a b = cond_not _ _ (le-ltb off 0x1000 a) ∙ cond_so _ _ (lt-ltb off 0x2000 b)
+  in_pending a b = cond-false _ _ _ (le-ltb off 0x1000 a) ∙ cond-true _ _ _ (lt-ltb off 0x2000 b)
 
   in_enables : 0x2000 ≤ off → off < 0x200000 → decode n m off ≡ enable_at n m ((off - 0x2000) / 0x80) ((off - 0x2000) % 0x80 / 4)
   unfolding decode
   in_enables a b =
-      cond_not _ _ (le-ltb off 0x1000 (omega arith)) ∙ cond_not _ _ (le-ltb off 0x2000 a) ∙ cond_so _ _ (lt-ltb off 0x200000 b)
+      cond-false _ _ _ (le-ltb off 0x1000 (omega arith)) ∙ cond-false _ _ _ (le-ltb off 0x2000 a) ∙ cond-true _ _ _ (lt-ltb off 0x200000 b)
 
   in_pages : 0x200000 ≤ off → decode n m off ≡ page_at m ((off - 0x200000) / 0x1000) ((off - 0x200000) % 0x1000)
   unfolding decode
   in_pages a =
-      cond_not _ _ (le-ltb off 0x1000 (omega arith)) ∙ cond_not _ _ (le-ltb off 0x2000 (omega arith))
-      ∙ cond_not _ _ (le-ltb off 0x200000 a)
+      cond-false _ _ _ (le-ltb off 0x1000 (omega arith)) ∙ cond-false _ _ _ (le-ltb off 0x2000 (omega arith))
+      ∙ cond-false _ _ _ (le-ltb off 0x200000 a)
 
   -- where a register stands, the offset decodes to it
   stands_decodes : Wide n m → (r : Register) → StandsAt n m off r → decode n m off ≡ r
@@ -62,11 +62,11 @@ module _ (n m off : ℕ) where
   stands_decodes l (Priority s) p =
       let range = source_range n s p.0 in
       let place : off / 4 ≡ s = omega (arith, p.1) in
-      in_priorities (omega (arith, p.1, range.1, l.0)) ∙ ap (priority_at n) place ∙ cond_so _ _ p.0
+      in_priorities (omega (arith, p.1, range.1, l.0)) ∙ ap (priority_at n) place ∙ cond-true _ _ _ p.0
   stands_decodes l (Pending w) p =
       let range = word_range n w p.0 in
       let place : (off - 0x1000) / 4 ≡ w = omega (arith, p.1) in
-      in_pending (omega (arith, p.1)) (omega (arith, p.1, range, l.0)) ∙ ap (pending_at n) place ∙ cond_so _ _ p.0
+      in_pending (omega (arith, p.1)) (omega (arith, p.1, range, l.0)) ∙ ap (pending_at n) place ∙ cond-true _ _ _ p.0
   stands_decodes l (Enable c w) p =
       let words = word_range n w p.1 in
       let contexts = context_range m c p.0 in
@@ -75,16 +75,16 @@ module _ (n m off : ℕ) where
       let context : (off - 0x2000) / 0x80 ≡ c = omega (arith, place) in
       let word : (off - 0x2000) % 0x80 / 4 ≡ w = omega (arith, place) in
       in_enables (omega (arith, p.2)) (omega (arith, p.2, contexts, l.1))
-      ∙ ap₂ (enable_at n m) context word ∙ cond_so _ _ (and_intro p.0 p.1)
+      ∙ ap₂ (enable_at n m) context word ∙ cond-true _ _ _ (and_from _ _ p.0 p.1)
   stands_decodes l (Threshold c) p =
       let context : (off - 0x200000) / 0x1000 ≡ c = omega (arith, p.1) in
       let place : (off - 0x200000) % 0x1000 ≡ 0 = omega (arith, p.1) in
-      in_pages (omega (arith, p.1)) ∙ ap₂ (page_at m) context place ∙ cond_so _ _ (and_intro p.0 refl)
+      in_pages (omega (arith, p.1)) ∙ ap₂ (page_at m) context place ∙ cond-true _ _ _ (and_from _ _ p.0 refl)
   stands_decodes l (Claim c) p =
       let context : (off - 0x200000) / 0x1000 ≡ c = omega (arith, p.1) in
       let place : (off - 0x200000) % 0x1000 ≡ 4 = omega (arith, p.1) in
       in_pages (omega (arith, p.1)) ∙ ap₂ (page_at m) context place
-      ∙ cond_not _ _ (and-false (is_context m c)) ∙ cond_so _ _ (and_intro p.0 refl)
+      ∙ cond-false _ _ _ (and-false (is_context m c)) ∙ cond-true _ _ _ (and_from _ _ p.0 refl)
   stands_decodes l Nothing p = absurd p
 
   -- what an aligned offset decodes to, stands there
@@ -99,10 +99,10 @@ module _ (n m off : ℕ) where
   decoded_page : (c place : ℕ) → off ≡ 0x200000 + 0x1000 * c + place → Decoded (page_at m c place)
   unfolding page_at Decoded
   decoded_page c place e = ⊎_elim
-      (λ t. subst Decoded (sym (cond_so _ _ t)) (inr (and_left (is_context m c) _ t, omega (arith, e, eqb-true place 0 (and_right (is_context m c) _ t)))))
-      (λ t. subst Decoded (sym (cond_not _ _ t)) (decoded_cond (is_context m c && eqb place 4) (Claim c)
-      (λ u. (and_left (is_context m c) _ u, omega (arith, e, eqb-true place 4 (and_right (is_context m c) _ u))))))
-      (dichotomy (is_context m c && eqb place 0))
+      (λ t. subst Decoded (sym (cond-true _ _ _ t)) (inr ((and_parts (is_context m c) _ t).0, omega (arith, e, eqb-true place 0 (and_parts (is_context m c) _ t).1))))
+      (λ t. subst Decoded (sym (cond-false _ _ _ t)) (decoded_cond (is_context m c && eqb place 4) (Claim c)
+      (λ u. ((and_parts (is_context m c) _ u).0, omega (arith, e, eqb-true place 4 (and_parts (is_context m c) _ u).1)))))
+      (cases_Bool (is_context m c && eqb place 0))
 
   decoded : off % 4 ≡ 0 → Decoded (decode n m off)
   unfolding priority_at pending_at enable_at
@@ -118,15 +118,15 @@ module _ (n m off : ℕ) where
       (decoded_cond (is_context m ((off - 0x2000) / 0x80) && is_word n ((off - 0x2000) % 0x80 / 4))
       (Enable ((off - 0x2000) / 0x80) ((off - 0x2000) % 0x80 / 4))
       (λ t. (
-        and_left _ (is_word n ((off - 0x2000) % 0x80 / 4)) t,
-        and_right (is_context m ((off - 0x2000) / 0x80)) _ t,
+        (and_parts _ (is_word n ((off - 0x2000) % 0x80 / 4)) t).0,
+        (and_parts (is_context m ((off - 0x2000) / 0x80)) _ t).1,
         omega (arith, ltb-false off 0x2000 b),
       ))))
       (λ d. subst Decoded (sym (in_pages (ltb-false off 0x200000 d)))
       (decoded_page ((off - 0x200000) / 0x1000) ((off - 0x200000) % 0x1000) (omega (arith, ltb-false off 0x200000 d))))
-      (dichotomy (ltb off 0x200000)))
-      (dichotomy (ltb off 0x2000)))
-      (dichotomy (ltb off 0x1000))
+      (cases_Bool (ltb off 0x200000)))
+      (cases_Bool (ltb off 0x2000)))
+      (cases_Bool (ltb off 0x1000))
 
   module _ (limits : Wide n m) (aligned : off % 4 ≡ 0) where
     -- each register of the map is met by exactly its offset
@@ -155,7 +155,7 @@ named (Claim c) = true
 named Nothing = false
 
 pub is_named : (r : Register) → So (named r) → r ≢ Nothing
-is_named r t e = not_so refl (subst (λ (x : Register). So (named x)) e t)
+is_named r t e = both_ways _ refl (subst (λ (x : Register). So (named x)) e t)
 
 -- "Source n is bit n mod 32 of word n / 32": a word packed from the sources' bits has each source's bit in that place
 pub source_bit : (f : ℕ → Bool) (n : ℕ) → bit (packed (λ j. f (n / 32 * 32 + j)) 32) (n % 32) ≡ f n

@@ -8,9 +8,9 @@ use native.Mathlib.Nat.{mul-le-mul_left}
 use native.Mathlib.Omega.{arith}
 use lib.Dec.{ltb}
 use borrow.Author.Tests.{leb-true, leb-false, le-leb, ltb-true, ltb-false}
+use Rattle.std.proofs.lemmas.Bool.{cases_Bool, false_from_ne_true}
 use Rattle.limits.specs.Limits.{bucket_room, last_bucket}
 use Rattle.laws.specs.Fold.{sum_to, first_to, First}
-use Rattle.laws.proofs.Truth.{dichotomy, so_not}
 use Rattle.laws.proofs.Fold.{first_is, first_once}
 use Rattle.model.specs.Waits.{upper_end, reaches, percentile, Percentile}
 
@@ -26,14 +26,14 @@ module _ (counts : ℕ → ℕ) (p : ℕ) (most : p ≤ 1000) where
   first_percentile k f = record {
     exists = omega (arith, below);
     reached = leb-true (p * sum_to counts bucket_room) (sum_to counts (suc k) * 1000) (f.found below);
-    lowest = λ j h. leb-false (p * sum_to counts bucket_room) (sum_to counts (suc j) * 1000) (so_not _ (f.before j h));
+    lowest = λ j h. leb-false (p * sum_to counts bucket_room) (sum_to counts (suc j) * 1000) (false_from_ne_true _ (f.before j h));
   }
     where
       below : k < bucket_room
       below = ⊎_elim
           (λ (t : So (ltb k bucket_room)). ltb-true k bucket_room t)
           (λ t. absurd (f.before last_bucket (omega (arith, ltb-false k bucket_room t)) last_reaches))
-          (dichotomy (ltb k bucket_room))
+          (cases_Bool (ltb k bucket_room))
 
   pub percentile_is : (k : ℕ) × Percentile counts p k × (percentile counts p ≡ upper_end k)
   unfolding percentile

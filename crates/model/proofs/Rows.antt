@@ -8,7 +8,7 @@ use Prim.Native.Nat.{ℕ, ◌+◌, ◌%◌, ◌≤◌, ◌<◌}
 use native.Mathlib.Omega.{arith}
 use lib.Dec.{ltb, eqb, lit<}
 use borrow.Author.Tests.{leb-true, ltb-true, ltb-false, lt-ltb, le-ltb, le-leb, lt-leb, eqb-true, eqb-false, eq-eqb, ne_eqb}
-use Rattle.laws.proofs.Truth.{dichotomy, not_so, so_not, fails}
+use Rattle.std.proofs.lemmas.Bool.{cases_Bool, both_ways, false_from_ne_true, not-true}
 use Rattle.model.specs.declared.State.{State}
 use Rattle.model.specs.Board.{is_source, is_context}
 use Rattle.model.specs.Refusals.{Ground, first_of}
@@ -27,7 +27,7 @@ hit_iff n g gs r = (
       (λ t.
       let later = (smallest_of g.number gs r.1).refused (λ z. omega (arith, z, e, first_miss g gs t, r.0)) in
       absurd (omega (arith, rising_above g.number gs r.1 later.0 later.1, later.3, e, first_miss g gs t)))
-      (dichotomy g.holds)),
+      (cases_Bool g.holds)),
   first_hit g gs,
 )
 
@@ -36,10 +36,10 @@ pub outside_iff : (n i : ℕ) → So (not (is_source n i)) ↔ ((i ≡ 0) ⊎ (n
 outside_iff n i = (
   (λ t. ⊎_elim (λ (z : So (eqb i 0)). inl (eqb-true i 0 z))
       (λ z. ⊎_elim (λ (h : So (ltb n i)). inr (ltb-true n i h))
-      (λ h. absurd (not_so (fails _ t) (range_source n i (omega (arith, eqb-false i 0 z)) (omega (arith, ltb-false n i h)))))
-      (dichotomy (ltb n i)))
-      (dichotomy (eqb i 0))),
-  (λ o. ap not (so_not (is_source n i) (λ t.
+      (λ h. absurd (both_ways _ (not-true _ t) (range_source n i (omega (arith, eqb-false i 0 z)) (omega (arith, ltb-false n i h)))))
+      (cases_Bool (ltb n i)))
+      (cases_Bool (eqb i 0))),
+  (λ o. ap not (false_from_ne_true (is_source n i) (λ t.
       let range = source_range n i t in
       ⊎_elim (λ (e : i ≡ 0). omega (arith, e, range.0)) (λ h. omega (arith, h, range.1)) o))),
 )
@@ -77,8 +77,8 @@ module _ (s : State) where
   not_sound_iff a =
       let row = hit_iff 0 (not_sound s) (rest (grounds a s)) (subst (Rising 0) (grounds_are a) (rising a s)) in
       let is = ap first_of (grounds_are a) in (
-        (λ e f. not_so (fails _ (row.0 (sym is ∙ e))) (sound_test s f)),
-        (λ n. is ∙ row.1 (ap not (so_not (sound s) (λ t. n (sound_facts s t))))),
+        (λ e f. both_ways _ (not-true _ (row.0 (sym is ∙ e))) (sound_test s f)),
+        (λ n. is ∙ row.1 (ap not (false_from_ne_true (sound s) (λ t. n (sound_facts s t))))),
       )
 
   module _ (f : Sound s) where
@@ -107,17 +107,17 @@ module _ (s : State) where
     no_step_left_iff (advance n) t = row_iff (advance n) 2 (no_step_left s) _ (number_of_rest (advance n)) (rising (advance n) s).1 full_iff
     no_step_left_iff (read off) t = row_iff (read off) 2 (no_step_left s) _ (number_of_rest (read off)) (rising (read off) s).1 full_iff
     no_step_left_iff (write off v) t = row_iff (write off v) 2 (no_step_left s) _ (number_of_rest (write off v)) (rising (write off v) s).1 full_iff
-    no_step_left_iff (notification c) t = absurd (not_so refl t)
-    no_step_left_iff mean t = absurd (not_so refl t)
-    no_step_left_iff (by_claim p) t = absurd (not_so refl t)
-    no_step_left_iff (by_time p) t = absurd (not_so refl t)
-    no_step_left_iff totals t = absurd (not_so refl t)
+    no_step_left_iff (notification c) t = absurd (both_ways _ refl t)
+    no_step_left_iff mean t = absurd (both_ways _ refl t)
+    no_step_left_iff (by_claim p) t = absurd (both_ways _ refl t)
+    no_step_left_iff (by_time p) t = absurd (both_ways _ refl t)
+    no_step_left_iff totals t = absurd (both_ways _ refl t)
 
     -- 7: "notification asked for a context not below C"
     pub no_such_context_iff : (c : ℕ) → ((respond (notification c) s).number ≡ 7) ↔ (s.shape.contexts ≤ c)
     unfolding grounds not_sound no_such_context is_context
     no_such_context_iff c = row_iff (notification c) 2 (no_such_context s c) [] (number_of_rest (notification c)) (rising (notification c) s).1 (
-      (λ t. ltb-false c s.shape.contexts (fails _ t)),
+      (λ t. ltb-false c s.shape.contexts (not-true _ t)),
       (λ h. ap not (le-ltb c s.shape.contexts h)),
     )
 
@@ -180,6 +180,6 @@ module _ (s : State) where
         pub offset_unaligned_iff : off ≤ 0x3FFFFFC → ((respond a s).number ≡ 5) ↔ (off % 4 ≢ 0)
         unfolding offset_unaligned
         offset_unaligned_iff low = row_iff a 4 (offset_unaligned off) [] (access_rows off access ∙ first_miss (offset_above off) _ (unfold offset_above in le-ltb 0x3FFFFFC off low)) (lit< tt, tt) (
-          (λ t. eqb-false (off % 4) 0 (fails _ t)),
+          (λ t. eqb-false (off % 4) 0 (not-true _ t)),
           (λ ne. ap not (ne_eqb (off % 4) 0 ne)),
         )

@@ -7,8 +7,8 @@ use Prim.Native.Nat.{ℕ, ◌<◌}
 use native.Mathlib.Omega.{arith}
 use lib.Dec.{eqb}
 use lib.ListN.{get_or-replicate}
+use Rattle.std.proofs.lemmas.Bool.{both_ways, cond-false}
 use Rattle.limits.specs.Limits.{source_room, bucket_room}
-use Rattle.laws.proofs.Truth.{not_so, cond_not}
 use Rattle.laws.proofs.Fold.{sum_zero}
 use Rattle.model.specs.declared.State.{State}
 use Rattle.model.specs.declared.Shape.{Shape}
@@ -29,8 +29,8 @@ fresh_logged h = record {
     started = λ _. unfold request in get_or-replicate source_room i 0 0 l;
     claims = unfold source_claims in get_or-replicate source_room i 0 0 l;
     ticks = unfold source_waited in get_or-replicate source_room i 0 0 l;
-    rises = omega (arith, cond_not {A = ℕ} {b = is_pending (request (fresh_in h).requests i)} 1 0 (idle i l));
-    serving = λ t. absurd (not_so refl t);
+    rises = omega (arith, cond-false {A = ℕ} (is_pending (request (fresh_in h).requests i)) 1 0 (idle i l));
+    serving = λ t. absurd (both_ways _ refl t);
   };
   bucket = λ k l. unfold bucket_claims bucket_ticks in (get_or-replicate bucket_room k 0 0 l, get_or-replicate bucket_room k 0 0 l);
   separate = tt;
@@ -43,7 +43,7 @@ fresh_logged h = record {
     idle i l = unfold is_pending request fresh_in in ap (λ (x : ℕ). eqb x 1) (get_or-replicate source_room i 0 0 l)
 
     ageless : board_open (fresh_in h).clock (fresh_in h).requests ≡ 0
-    ageless = unfold board_open open_age in sum_zero _ source_room (λ i l. cond_not _ _ (idle i l))
+    ageless = unfold board_open open_age in sum_zero _ source_room (λ i l. cond-false _ _ _ (idle i l))
 
 -- every state of a run from a sound one is sound
 pub run_sound : (s : State) → Sound s → (calls : List Call) → Sound (run s calls)

@@ -6,10 +6,11 @@ use mathlib.Core.Logic.{⊎_elim, ◌↔◌}
 use Prim.Native.Nat.{ℕ, ◌+◌, ◌*◌, ◌≤◌, ◌<◌}
 use lib.Dec.{ltb, eqb}
 use borrow.Author.Tests.{ltb-true, ltb-false, lt-ltb, le-ltb, leb-true, eqb-true, le-leb, eq-eqb, ne_eqb, eqb-false, not-false}
+use Rattle.std.proofs.lemmas.Bool.{cases_Bool, both_ways, false_from_ne_true, not-true, and_from, and_parts}
 use Rattle.limits.specs.Limits.{source_room, context_room, word_room}
 use Rattle.laws.specs.Fold.{all_of}
 use Rattle.laws.specs.Bits.{bit}
-use Rattle.laws.proofs.Truth.{dichotomy, not_so, so_not, fails, same_test, and_intro, and_left, and_right}
+use Rattle.laws.proofs.Truth.{same_test}
 use Rattle.laws.proofs.Fold.{all_at, all_from_each, test_at}
 use Rattle.laws.proofs.Bits.{bit_packed, bit_above, packed_lt, bits_ext}
 use Rattle.model.specs.declared.Shape.{Shape}
@@ -23,7 +24,7 @@ use Rattle.model.specs.Sound.{typed, all_zero, sound_source, sound_source_at, so
 
 -- a clause "a or b" is "b where not a"
 or_else : (a b : Bool) → So (a || b) → a ≡ false → So b
-or_else true b h e = absurd (not_so e refl)
+or_else true b h e = absurd (both_ways _ e refl)
 or_else false b h e = h
 
 else_or : (a b : Bool) → (a ≡ false → So b) → So (a || b)
@@ -61,11 +62,11 @@ pub typed_test : (s : State) → Typed s → So (typed s)
 unfolding typed all_of
 typed_test s f =
     let room = f.requests in
-    and_intro (eq-eqb _ _ f.kind) (and_intro (eq-eqb _ _ f.priority) (and_intro (eq-eqb _ _ f.enable)
-    (and_intro (eq-eqb _ _ f.threshold) (and_intro (eq-eqb _ _ room.stage) (and_intro (eq-eqb _ _ room.line)
-    (and_intro (eq-eqb _ _ room.extra) (and_intro (eq-eqb _ _ room.start) (and_intro (eq-eqb _ _ f.claims)
-    (and_intro (eq-eqb _ _ f.waited) (and_intro (eq-eqb _ _ f.bucket_claims) (and_intro (eq-eqb _ _ f.bucket_ticks)
-    (and_intro (le-leb _ _ f.clock) (and_intro (le-leb _ _ f.steps) refl)))))))))))))
+    and_from _ _ (eq-eqb _ _ f.kind) (and_from _ _ (eq-eqb _ _ f.priority) (and_from _ _ (eq-eqb _ _ f.enable)
+    (and_from _ _ (eq-eqb _ _ f.threshold) (and_from _ _ (eq-eqb _ _ room.stage) (and_from _ _ (eq-eqb _ _ room.line)
+    (and_from _ _ (eq-eqb _ _ room.extra) (and_from _ _ (eq-eqb _ _ room.start) (and_from _ _ (eq-eqb _ _ f.claims)
+    (and_from _ _ (eq-eqb _ _ f.waited) (and_from _ _ (eq-eqb _ _ f.bucket_claims) (and_from _ _ (eq-eqb _ _ f.bucket_ticks)
+    (and_from _ _ (le-leb _ _ f.clock) (and_from _ _ (le-leb _ _ f.steps) refl)))))))))))))
 
 pub limits_facts : (n c b : ℕ) → So (within_limits n c b) → WithinLimits n c b
 unfolding within_limits
@@ -78,9 +79,9 @@ limits_facts n c b h = record {
 pub limits_test : (n c b : ℕ) → WithinLimits n c b → So (within_limits n c b)
 unfolding within_limits all_of
 limits_test n c b f =
-    and_intro (le-leb _ _ f.sources.0) (and_intro (le-leb _ _ f.sources.1)
-    (and_intro (le-leb _ _ f.contexts.0) (and_intro (le-leb _ _ f.contexts.1)
-    (and_intro (le-leb _ _ f.bits.0) (and_intro (le-leb _ _ f.bits.1) refl)))))
+    and_from _ _ (le-leb _ _ f.sources.0) (and_from _ _ (le-leb _ _ f.sources.1)
+    (and_from _ _ (le-leb _ _ f.contexts.0) (and_from _ _ (le-leb _ _ f.contexts.1)
+    (and_from _ _ (le-leb _ _ f.bits.0) (and_from _ _ (le-leb _ _ f.bits.1) refl)))))
 
 zero_facts : (k p c w : ℕ) (r : Request) → So (all_zero k p c w r) → AllZero k p c w r
 unfolding all_zero
@@ -88,7 +89,7 @@ zero_facts k p c w r h = record {
   kind = eqb-true _ _ (test_at _ h 0);
   priority = eqb-true _ _ (test_at _ h 1);
   stage = eqb-true _ _ (test_at _ h 2);
-  line = fails _ (test_at _ h 3);
+  line = not-true _ (test_at _ h 3);
   extra = eqb-true _ _ (test_at _ h 4);
   start = eqb-true _ _ (test_at _ h 5);
   claims = eqb-true _ _ (test_at _ h 6);
@@ -98,9 +99,9 @@ zero_facts k p c w r h = record {
 zero_test : (k p c w : ℕ) (r : Request) → AllZero k p c w r → So (all_zero k p c w r)
 unfolding all_zero all_of
 zero_test k p c w r f =
-    and_intro (eq-eqb _ _ f.kind) (and_intro (eq-eqb _ _ f.priority) (and_intro (eq-eqb _ _ f.stage)
-    (and_intro (ap not f.line) (and_intro (eq-eqb _ _ f.extra) (and_intro (eq-eqb _ _ f.start)
-    (and_intro (eq-eqb _ _ f.claims) (and_intro (eq-eqb _ _ f.waited) refl)))))))
+    and_from _ _ (eq-eqb _ _ f.kind) (and_from _ _ (eq-eqb _ _ f.priority) (and_from _ _ (eq-eqb _ _ f.stage)
+    (and_from _ _ (ap not f.line) (and_from _ _ (eq-eqb _ _ f.extra) (and_from _ _ (eq-eqb _ _ f.start)
+    (and_from _ _ (eq-eqb _ _ f.claims) (and_from _ _ (eq-eqb _ _ f.waited) refl)))))))
 
 source_facts : (s : State) (i : ℕ) → So (sound_source_at s i) → SoundSourceAt s i
 unfolding sound_source_at sound_source
@@ -114,24 +115,24 @@ source_facts s i t = record {
   extra = leb-true _ _ (test_at _ t 6);
   counting = λ ne. eqb-true _ _ (or_else _ _ (test_at _ t 7) (ne_eqb _ _ ne));
   edgeless = λ e. eqb-true _ _ (or_else _ _ (test_at _ t 8) (ap not e));
-  level = λ k e l. not_so (fails _ (test_at _ t 9)) (and_intro (and_intro (eq-eqb _ _ k) e) l);
+  level = λ k e l. both_ways _ (not-true _ (test_at _ t 9)) (and_from _ _ (and_from _ _ (eq-eqb _ _ k) e) l);
   waits = leb-true _ _ (test_at _ t 10);
 }
 
 source_test : (s : State) (i : ℕ) → SoundSourceAt s i → So (sound_source_at s i)
 unfolding sound_source_at sound_source all_of
 source_test s i f =
-    and_intro (le-leb _ _ f.kind)
-    (and_intro (else_or _ _ (λ e. zero_test _ _ _ _ _ (f.absent e)))
-    (and_intro (le-leb _ _ f.priorities)
-    (and_intro (le-leb _ _ f.stage)
-    (and_intro (le-leb _ _ f.start)
-    (and_intro (else_or _ _ (λ e. eq-eqb _ _ (f.startless e)))
-    (and_intro (le-leb _ _ f.extra)
-    (and_intro (else_or _ _ (λ e. eq-eqb _ _ (f.counting (eqb-false _ _ e))))
-    (and_intro (else_or _ _ (λ e. eq-eqb _ _ (f.edgeless (not-false _ e))))
-    (and_intro (not_all (eqb (kind_of s.shape i) 0) (is_idle (request s.requests i)) (request s.requests i).line (λ k. f.level (eqb-true _ _ k)))
-    (and_intro (le-leb _ _ f.waits) refl))))))))))
+    and_from _ _ (le-leb _ _ f.kind)
+    (and_from _ _ (else_or _ _ (λ e. zero_test _ _ _ _ _ (f.absent e)))
+    (and_from _ _ (le-leb _ _ f.priorities)
+    (and_from _ _ (le-leb _ _ f.stage)
+    (and_from _ _ (le-leb _ _ f.start)
+    (and_from _ _ (else_or _ _ (λ e. eq-eqb _ _ (f.startless e)))
+    (and_from _ _ (le-leb _ _ f.extra)
+    (and_from _ _ (else_or _ _ (λ e. eq-eqb _ _ (f.counting (eqb-false _ _ e))))
+    (and_from _ _ (else_or _ _ (λ e. eq-eqb _ _ (f.edgeless (not-false _ e))))
+    (and_from _ _ (not_all (eqb (kind_of s.shape i) 0) (is_idle (request s.requests i)) (request s.requests i).line (λ k. f.level (eqb-true _ _ k)))
+    (and_from _ _ (le-leb _ _ f.waits) refl))))))))))
 
 -- a set bit of a kept word is that of a source, and the other way round
 pub kept_bit : (n w v j : ℕ) → j < 32 → bit (kept n w v) j ≡ (bit v j && is_source n (w * 32 + j))
@@ -146,21 +147,21 @@ word_facts : (n w v : ℕ) → v ≡ kept n w v → (j : ℕ) → So (bit v j) �
 word_facts n w v e j t = ⊎_elim
     (λ k.
     let l : j < 32 = ltb-true j 32 k in
-    (l, and_right (bit v j) (is_source n (w * 32 + j)) (sym (kept_bit n w v j l) ∙ t')))
-    (λ k. absurd (not_so (kept_above n w v j (ltb-false j 32 k)) t'))
-    (dichotomy (ltb j 32))
+    (l, (and_parts (bit v j) (is_source n (w * 32 + j)) (sym (kept_bit n w v j l) ∙ t')).1))
+    (λ k. absurd (both_ways _ (kept_above n w v j (ltb-false j 32 k)) t'))
+    (cases_Bool (ltb j 32))
   where
     t' : So (bit (kept n w v) j)
     t' = subst (λ (x : ℕ). So (bit x j)) e t
 
 word_test : (n w v : ℕ) → ((j : ℕ) → So (bit v j) → (j < 32) × So (is_source n (w * 32 + j))) → v ≡ kept n w v
 word_test n w v f = bits_ext v (kept n w v) (λ j. ⊎_elim
-    (λ k. same_test _ _ (λ t. kept_bit n w v j (ltb-true j 32 k) ∙ and_intro t (f j t).1)
-    (λ t. and_left (bit v j) _ (sym (kept_bit n w v j (ltb-true j 32 k)) ∙ t)))
+    (λ k. same_test _ _ (λ t. kept_bit n w v j (ltb-true j 32 k) ∙ and_from _ _ t (f j t).1)
+    (λ t. (and_parts (bit v j) _ (sym (kept_bit n w v j (ltb-true j 32 k)) ∙ t)).0))
     (λ k.
     let l : 32 ≤ j = ltb-false j 32 k in
-    so_not (bit v j) (λ t. not_so (le-ltb j 32 l) (lt-ltb j 32 (f j t).0)) ∙ sym (kept_above n w v j l))
-    (dichotomy (ltb j 32)))
+    false_from_ne_true (bit v j) (λ t. both_ways _ (le-ltb j 32 l) (lt-ltb j 32 (f j t).0)) ∙ sym (kept_above n w v j l))
+    (cases_Bool (ltb j 32)))
 
 context_facts : (h : Shape) (g : Settings) (c : ℕ) → So (sound_context h g c) → SoundContext h g c
 unfolding sound_context
@@ -174,10 +175,10 @@ context_facts h g c t = record {
 context_test : (h : Shape) (g : Settings) (c : ℕ) → SoundContext h g c → So (sound_context h g c)
 unfolding sound_context all_of
 context_test h g c f =
-    and_intro (else_or _ _ (λ e. eq-eqb _ _ (f.absent_threshold e)))
-    (and_intro (else_or _ _ (λ e. all_from_each _ word_room (λ w k. eq-eqb _ _ (f.absent_enables e w k))))
-    (and_intro (le-leb _ _ f.thresholds)
-    (and_intro (all_from_each _ word_room (λ w k. eq-eqb _ _ (word_test h.sources w (enable_word g c w) (λ j. f.enables w j k)))) refl)))
+    and_from _ _ (else_or _ _ (λ e. eq-eqb _ _ (f.absent_threshold e)))
+    (and_from _ _ (else_or _ _ (λ e. all_from_each _ word_room (λ w k. eq-eqb _ _ (f.absent_enables e w k))))
+    (and_from _ _ (le-leb _ _ f.thresholds)
+    (and_from _ _ (all_from_each _ word_room (λ w k. eq-eqb _ _ (word_test h.sources w (enable_word g c w) (λ j. f.enables w j k)))) refl)))
 
 pub sound_facts : (s : State) → So (sound s) → Sound s
 unfolding sound
@@ -194,12 +195,12 @@ sound_facts s t = record {
 pub sound_test : (s : State) → Sound s → So (sound s)
 unfolding sound all_of
 sound_test s f =
-    and_intro (typed_test s f.types)
-    (and_intro (limits_test _ _ _ f.limits)
-    (and_intro (all_from_each _ source_room (λ i k. source_test s i (f.source i k)))
-    (and_intro (all_from_each _ context_room (λ c k. context_test _ _ c (f.context c k)))
-    (and_intro (le-leb _ _ f.claims)
-    (and_intro (eq-eqb _ _ f.claims_booked) (and_intro (eq-eqb _ _ f.ticks_booked) refl))))))
+    and_from _ _ (typed_test s f.types)
+    (and_from _ _ (limits_test _ _ _ f.limits)
+    (and_from _ _ (all_from_each _ source_room (λ i k. source_test s i (f.source i k)))
+    (and_from _ _ (all_from_each _ context_room (λ c k. context_test _ _ c (f.context c k)))
+    (and_from _ _ (le-leb _ _ f.claims)
+    (and_from _ _ (eq-eqb _ _ f.claims_booked) (and_from _ _ (eq-eqb _ _ f.ticks_booked) refl))))))
 
 -- Sound is what the test says
 pub sound_iff : (s : State) → So (sound s) ↔ Sound s

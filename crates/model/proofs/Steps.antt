@@ -8,10 +8,10 @@ use native.Mathlib.Omega.{arith}
 use lib.Dec.{eqb}
 use lib.ListN.{length, get_or, length-set}
 use borrow.Author.Tests.{eqb-false}
+use Rattle.std.proofs.lemmas.Bool.{cond_both}
 use Rattle.limits.specs.Limits.{source_room, bucket_room}
 use Rattle.laws.specs.Fold.{sum_to}
 use Rattle.laws.proofs.Lists.{list_sum}
-use Rattle.laws.proofs.Truth.{cond_elim}
 use Rattle.model.specs.declared.Buckets.{Buckets}
 use Rattle.model.specs.declared.State.{State}
 use Rattle.model.specs.declared.Register.{Register}
@@ -62,7 +62,7 @@ module _ (s : State) (f : Sound s) (room : s.steps < 4294967295) where
 
   pub complete_step : (c v : ℕ) → Sound (with_steps (complete_by s c v) (s.steps + 1))
   unfolding complete_by
-  complete_step c v = cond_elim (λ (k : State). Sound (with_steps k (s.steps + 1))) (takes_effect s c v)
+  complete_step c v = cond_both (takes_effect s c v) _ _ (λ (k : State). Sound (with_steps k (s.steps + 1)))
       (λ t.
       let source = ((takes_effect_iff s c v).0 t).source in
       unbooked_kept v (completed (kind_of s.shape v) s.clock (request s.requests v)) source
@@ -112,7 +112,7 @@ module _ (s : State) (f : Sound s) (room : s.steps < 4294967295) where
 
   pub claim_step : (c : ℕ) → Sound (with_steps (claim_by s c) (s.steps + 1))
   unfolding claim_by
-  claim_step c = cond_elim (λ (k : State). Sound (with_steps k (s.steps + 1))) (eqb (winner s c) 0)
+  claim_step c = cond_both (eqb (winner s c) 0) _ _ (λ (k : State). Sound (with_steps k (s.steps + 1)))
       (λ _. sound_steps s f (s.steps + 1) (omega arith) (omega arith))
       (λ t.
       let own = (winner_is s c).some (eqb-false (winner s c) 0 t) in

@@ -10,9 +10,9 @@ use lib.Dec.{leb, ltb, eqb}
 use lib.Count.{count_leading_zeros, leading_length}
 use lib.Pow.{pow_pos, pow_mono}
 use borrow.Author.Tests.{leb-true, le-leb, ltb-true, ltb-false, eqb-true}
+use Rattle.std.proofs.lemmas.Bool.{cases_Bool}
 use Rattle.limits.specs.Limits.{bucket_room, last_bucket}
 use Rattle.laws.specs.Fold.{all_to, First}
-use Rattle.laws.proofs.Truth.{dichotomy}
 use Rattle.laws.proofs.Fold.{all_at, first_is, first_once}
 use Rattle.model.specs.Waits.{upper_ends, upper_end, lower_end, Holds, bucket_of}
 
@@ -43,7 +43,7 @@ module _ (w : ℕ) where
   lower_of (suc k) h f = ⊎_elim
       (λ (t : So (ltb w (2 ^ k))). absurd (f.before k (omega arith) (is_test k (omega arith) (omega (arith, ltb-true w (2 ^ k) t)))))
       (ltb-false w (2 ^ k))
-      (dichotomy (ltb w (2 ^ k)))
+      (cases_Bool (ltb w (2 ^ k)))
 
   below_lower : (j k : ℕ) → j < k → lower_end k ≤ w → 2 ^ j ≤ w
   unfolding lower_end
@@ -57,7 +57,7 @@ module _ (w : ℕ) where
       below = ⊎_elim
           (λ (t : So (ltb k bucket_room)). ltb-true k bucket_room t)
           (λ t. absurd (f.before last_bucket (omega (arith, ltb-false k bucket_room t)) (is_test last_bucket (omega arith) most)))
-          (dichotomy (ltb k bucket_room))
+          (cases_Bool (ltb k bucket_room))
 
   holds_first : (k : ℕ) → Holds k w → First test bucket_room k
   holds_first k h = record {

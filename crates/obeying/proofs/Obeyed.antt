@@ -4,10 +4,10 @@ use mathlib.Core.Path.{◌≡◌, ◌∙◌, refl, sym, ap}
 use mathlib.Core.Bool.{false}
 use mathlib.Core.List.{List}
 use Prim.Native.Nat.{ℕ}
+use Rattle.std.proofs.lemmas.Bool.{cond-false}
 use Rattle.std.specs.Prelude.{Result, Ok, Err}
 use lib.Dec.{eqb, eqb-suc-zero}
 use lib.ListN.{get_or}
-use Rattle.laws.proofs.Truth.{cond_not}
 use Rattle.model.specs.declared.State.{State}
 use Rattle.model.specs.declared.Refusal.{Refusal}
 use Rattle.model.specs.declared.Refusal.TheVariants as refusal
@@ -36,8 +36,8 @@ module _ (says : ℕ → List ℕ) (a : Call) (s : State) where
   told_refused n e ne =
       let fails = ap (λ (k : ℕ). eqb k 0) e ∙ ne in
       λ i. record {
-        stand = on (cond_not (after a s) s fails i);
-        prints = (cond_not (says (get_or (respond a s).values 0 0)) (refused_line (first_of (grounds a s))) fails ∙ ap refused_line e) i;
+        stand = on (cond-false _ (after a s) s fails i);
+        prints = (cond-false _ (says (get_or (respond a s).values 0 0)) (refused_line (first_of (grounds a s))) fails ∙ ap refused_line e) i;
       }
 
   pub told_accepted : (v : ℕ) (t : State) → first_of (grounds a s) ≡ 0 → get_or (values_of a s) 0 0 ≡ v → after a s ≡ t →
@@ -63,7 +63,7 @@ module _ (says : ℕ → List ℕ) (said : ℕ → Said) (same : (v : ℕ) → s
   unfolding goes_on answered answer_number answer_values said_of said_bytes
   told a s t (Ok v) e = ap (goes_on says) (sym e) ∙ (λ i. record { stand = on t; prints = same v i })
   told a s t (Err r) e =
-      ap (goes_on says) (sym e) ∙ (λ i. record { stand = on t; prints = cond_not (says 0) (refused_line (number_of r)) (not_zero r) i })
+      ap (goes_on says) (sym e) ∙ (λ i. record { stand = on t; prints = cond-false _ (says 0) (refused_line (number_of r)) (not_zero r) i })
 
   pub obeyed_as : {command k : Command} → command ≡ k → (a : Call) (s t : State) → commanded k s ≡ goes_on says (respond a s) →
       (x : Result ℕ Refusal) → answered x t ≡ respond a s → {y : Said} → y ≡ said_of said x → Obeyed command s t y

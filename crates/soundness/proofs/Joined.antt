@@ -2,9 +2,9 @@
 -- Assumes nothing.
 use Rattle.std.proofs.Common.{◌≡◌, Bool, false, ◌&&◌, leb, eqb}
 use Rattle.std.proofs.Math.Bool.{So, and_assoc, and-true}
+use Rattle.std.proofs.lemmas.Bool.{and_left, and_right}
 use Rattle.limits.specs.Limits.{source_room, context_room, bucket_room}
 use Rattle.laws.specs.Fold.{sum_to, all_to, all_of}
-use Rattle.laws.proofs.Truth.{and_fails_left, and_fails_right}
 use Rattle.model.specs.declared.State.{State}
 use Rattle.model.specs.Board.{within_limits}
 use Rattle.model.specs.Waits.{board_claims, board_waited, bucket_claims, bucket_ticks}
@@ -24,4 +24,4 @@ sound_parts s within = simp (within, and_assoc, and-true)
 -- outside the limits nothing is sound
 pub unsound_limits : (s : State) → limits s ≡ false → sound s ≡ false
 unfolding sound all_of
-unsound_limits s e = and_fails_right (typed s) (and_fails_left _ e)
+unsound_limits s e = and_right (typed s) _ (and_left _ _ e)

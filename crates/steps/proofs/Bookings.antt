@@ -5,8 +5,8 @@ use mathlib.Core.Bool.{So}
 use Prim.Native.Nat.{ℕ, ◌+◌, ◌-◌, ◌*◌, ◌≤◌, ◌<◌}
 use native.Mathlib.Omega.{arith}
 use lib.ListN.{get_or}
+use Rattle.std.proofs.lemmas.Bool.{cond-true}
 use Rattle.limits.specs.Limits.{source_room, bucket_room}
-use Rattle.laws.proofs.Truth.{cond_so}
 use Rattle.laws.proofs.Fold.{term_le_sum, sum_bound}
 use Rattle.model.specs.declared.State.{State}
 use Rattle.model.specs.declared.Request.{Request}
@@ -55,7 +55,7 @@ module _ (s : State) (ready : Ready s) where
   }
     where
       age : (i : ℕ) → So (is_pending_in s.requests.stage i) → open_age s.clock (request s.requests i) ≡ s.clock - get_or s.requests.start i 0
-      age i pending = unfold open_age is_pending in cond_so _ 0 pending
+      age i pending = unfold open_age is_pending in cond-true _ _ 0 pending
 
 -- a winner is a pending source
 pub winner_facts : (s : State) (c w : ℕ) → w ≡ winner s c → (w ≡ 0 → ⊥) →

@@ -4,7 +4,7 @@ use mathlib.Core.Path.{◌≡◌, ◌∙◌, refl, sym}
 use mathlib.Core.Bool.{So}
 use Prim.Native.Nat.{ℕ, ◌+◌}
 use lib.Dec.{eqb}
-use Rattle.laws.proofs.Truth.{cond_so, cond_elim}
+use Rattle.std.proofs.lemmas.Bool.{cond-true, cond_both}
 use Rattle.model.specs.declared.State.{State}
 use Rattle.model.specs.declared.Register.{Register}
 use Rattle.model.specs.declared.Register.TheVariants.{Priority, Pending, Enable, Threshold, Claim, Nothing}
@@ -21,7 +21,7 @@ module _ (s : State) where
   read_steps (Pending w) = refl
   read_steps (Enable c w) = refl
   read_steps (Threshold c) = refl
-  read_steps (Claim c) = cond_elim (λ (t : State). t.steps ≡ s.steps) (eqb (winner s c) 0) (λ _. refl) (λ _. refl)
+  read_steps (Claim c) = cond_both (eqb (winner s c) 0) _ _ (λ (t : State). t.steps ≡ s.steps) (λ _. refl) (λ _. refl)
   read_steps Nothing = refl
 
   pub write_steps : (r : Register) (v : ℕ) → (after_write s r v).steps ≡ s.steps
@@ -30,9 +30,9 @@ module _ (s : State) where
   write_steps (Pending w) v = refl
   write_steps (Enable c w) v = refl
   write_steps (Threshold c) v = refl
-  write_steps (Claim c) v = cond_elim (λ (t : State). t.steps ≡ s.steps) (takes_effect s c v) (λ _. refl) (λ _. refl)
+  write_steps (Claim c) v = cond_both (takes_effect s c v) _ _ (λ (t : State). t.steps ≡ s.steps) (λ _. refl) (λ _. refl)
   write_steps Nothing v = refl
 
   pub one_more : (a : Call) → So (is_step a) → (t : State) → t ≡ effect a s → t.steps ≡ s.steps → with_steps t (t.steps + 1) ≡ after a s
   unfolding after
-  one_more a step t is same = (λ i. with_steps (is i) (same i + 1)) ∙ sym (cond_so _ _ step)
+  one_more a step t is same = (λ i. with_steps (is i) (same i + 1)) ∙ sym (cond-true _ _ _ step)

@@ -8,7 +8,8 @@ use Prim.Native.Nat.{ℕ}
 use lib.Dec.{eqb}
 use lib.ListN.{get_or}
 use lib.Seq.{set-get_or}
-use Rattle.laws.proofs.Truth.{dichotomy, cond_so, cond_not, cond_ap}
+use Rattle.std.proofs.lemmas.Bool.{cases_Bool, cond-true, cond-false}
+use Rattle.laws.proofs.Truth.{cond_ap}
 use Rattle.model.specs.declared.Requests.{Requests}
 use Rattle.model.specs.declared.Settings.{Settings}
 use Rattle.model.specs.declared.Counts.{Counts}
@@ -57,8 +58,8 @@ module _ (s : State) where
       (won : w ≡ winner s c) (after : Claimed s.clock w s.requests.stage s.requests.start stage start s.counts counts s.buckets buckets) where
     nobody : So (eqb w 0) → with_claimed s stage start counts buckets ≡ s
     nobody t = λ i. with_claimed s
-        ((after.stages ∙ cond_so _ _ t) i) ((after.starts ∙ cond_so _ _ t) i)
-        ((after.counted ∙ cond_so _ _ t) i) ((after.booked ∙ cond_so _ _ t) i)
+        ((after.stages ∙ cond-true _ _ _ t) i) ((after.starts ∙ cond-true _ _ _ t) i)
+        ((after.counted ∙ cond-true _ _ _ t) i) ((after.booked ∙ cond-true _ _ _ t) i)
 
     somebody : eqb w 0 ≡ false → with_claimed s stage start counts buckets ≡ claim_of s w
     unfolding claim_of with_request with_counts set_request request served wait
@@ -67,19 +68,19 @@ module _ (s : State) where
       clock = s.clock;
       steps = s.steps;
       settings = s.settings;
-      requests = requests_of ((after.stages ∙ cond_not _ _ t) i) (sym (set-get_or s.requests.line w false) i)
-          (sym (set-get_or s.requests.extra w 0) i) ((after.starts ∙ cond_not _ _ t) i);
-      counts = (after.counted ∙ cond_not _ _ t) i;
-      buckets = (after.booked ∙ cond_not _ _ t) i;
+      requests = requests_of ((after.stages ∙ cond-false _ _ _ t) i) (sym (set-get_or s.requests.line w false) i)
+          (sym (set-get_or s.requests.extra w 0) i) ((after.starts ∙ cond-false _ _ _ t) i);
+      counts = (after.counted ∙ cond-false _ _ _ t) i;
+      buckets = (after.booked ∙ cond-false _ _ _ t) i;
     }
 
     claim_whole : with_claimed s stage start counts buckets ≡ claim_by s c
     unfolding claim_by
     claim_whole =
         ⊎_elim
-        (λ t. nobody t ∙ sym (cond_so s (claim_of s w) t))
-        (λ t. somebody t ∙ sym (cond_not s (claim_of s w) t))
-        (dichotomy (eqb w 0))
+        (λ t. nobody t ∙ sym (cond-true _ s (claim_of s w) t))
+        (λ t. somebody t ∙ sym (cond-false _ s (claim_of s w) t))
+        (cases_Bool (eqb w 0))
         ∙ ap (λ (k : ℕ). cond (eqb k 0) s (claim_of s k)) won
 
   -- a read of a register: what it gives, and what it leaves

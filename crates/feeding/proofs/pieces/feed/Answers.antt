@@ -1,8 +1,8 @@
 -- `pieces::feed` meets its contract: as many bytes as there is room for are fed, and a replay that cannot go on is refused.
 use Rattle.std.proofs.Common.{◌≡◌, ◌∙◌, List, [], ◌∷◌, ℕ, ◌/◌, length, take, sym, ap, subst, arith}
+use Rattle.std.proofs.lemmas.Bool.{cond-true, cond-false}
 use native.Mathlib.Nat.{zero-add, div-add-mod}
 use lib.Seq.{length-take-le}
-use Rattle.laws.proofs.Truth.{cond_so, cond_not}
 use Rattle.laws.proofs.Lists.{take_most}
 use Rattle.model.specs.Refusals.{answer_number}
 use Rattle.replaying.specs.Pieces.{shown, taken_values, printed_by, fed_of, part_of, accepted, feeding}
@@ -11,7 +11,7 @@ use Rattle.feeding.proofs.pieces.feed.Goals as goal
 
 pub returns-then-not-is_fit : goal.returns-then-not-is_fit
 unfolding fed_of answer_number taken_values printed_by feeding
-returns-then-not-is_fit c = (sym (cond_not _ _ (sym c.is_fit.ensures ∙ c.if-not-is_fit.true)), omega arith)
+returns-then-not-is_fit c = (sym (cond-false _ _ _ (sym c.is_fit.ensures ∙ c.if-not-is_fit.true)), omega arith)
 
 pub returns : goal.returns
 unfolding fed_of answer_number taken_values printed_by feeding accepted part_of
@@ -28,6 +28,6 @@ returns c =
     let long = sym count ∙ ap length taken in
     let printed = f.prints.place ∙ zero-add _ in
     let fits = sym c.is_fit.ensures ∙ c.if-not-is_fit.false in (
-      (λ i. record { number = 0; values = long i ∷ printed i ∷ []; replay = f.holds i; output = f.prints.bytes i }) ∙ sym (cond_so _ _ fits),
+      (λ i. record { number = 0; values = long i ∷ printed i ∷ []; replay = f.holds i; output = f.prints.bytes i }) ∙ sym (cond-true _ _ _ fits),
       omega (arith, part.ensures.room, count, c.min-taken.ensures, div-add-mod (length a.output.now) 20),
     )

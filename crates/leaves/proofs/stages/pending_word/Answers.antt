@@ -1,8 +1,8 @@
 use Rattle.std.proofs.Common.{◌≡◌, ◌∙◌, refl, sym, ap, ap₂, arith, ℕ, ◌+◌, ◌*◌, ◌%◌, ◌^◌, ◌<◌, Bool}
+use Rattle.std.proofs.lemmas.Bool.{cond-true, cond-false}
 use native.Mathlib.Nat.{add-zero, one-mul, mod-eq_of_lt}
 use lib.Pow.{pow_mono}
 use Rattle.laws.specs.Bits.{packed}
-use Rattle.laws.proofs.Truth.{cond_so, cond_not}
 use Rattle.laws.proofs.Bits.{packed_lt, packed_more}
 use Rattle.model.specs.declared.Requests.{Requests}
 use Rattle.model.specs.Board.{request}
@@ -34,10 +34,10 @@ loop-j-preserved c =
     let f = at c.args.requests.now c.args.w in
     let j = c.loop-j.j in
     elim c.if-is_pending.branch [
-      | then-is_pending w ↦ w.word-is ∙ ap₂ ◌+◌ c.loop-j.invariant (worth j c.loop-j-test.true ∙ sym (cond_so _ _ (sym (w.if-is_pending.ensures))))
+      | then-is_pending w ↦ w.word-is ∙ ap₂ ◌+◌ c.loop-j.invariant (worth j c.loop-j-test.true ∙ sym (cond-true _ _ _ (sym (w.if-is_pending.ensures))))
           ∙ sym (packed_more f j)
       | else-is_pending w ↦ w.word-is ∙ c.loop-j.invariant
-          ∙ sym (packed_more f j ∙ ap (λ (x : ℕ). packed f j + x) (cond_not _ _ (sym c.is_pending.ensures ∙ w.if-is_pending.false)) ∙ add-zero (packed f j))
+          ∙ sym (packed_more f j ∙ ap (λ (x : ℕ). packed f j + x) (cond-false _ _ _ (sym c.is_pending.ensures ∙ w.if-is_pending.false)) ∙ add-zero (packed f j))
     ]
 
 pub returns : goal.returns
