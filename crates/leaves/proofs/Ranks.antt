@@ -42,6 +42,9 @@ module _ (s : State) (c i : ℕ) (low : 1 ≤ i) (high : i ≤ s.shape.sources) 
       spare true (suc p) = cond-true _ (suc p) 0 (le-leb 1 (suc p) (omega arith))
       spare false p = refl
 
+  pub rank_idle : is_pending (request s.requests i) ≡ false → rank s c i ≡ 0
+  rank_idle ne = rank_read ∙ ap (λ (b : Bool). cond (b && enabled s.settings c i) (priority s.settings i) 0) ne
+
   pub rouses_read : rouses s c i ≡ ltb (threshold s.settings c) (read_rank s c i)
   unfolding rouses
   rouses_read =

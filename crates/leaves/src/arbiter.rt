@@ -30,6 +30,9 @@ pub fn winner(state: &State, c: usize) -> usize
     let mut won = 0;
     let mut high = 0;
     for i in (1..state.shape.sources as usize + 1).rev() {
+        if !is_pending(&state.requests, i) {
+            continue;
+        }
         let rank = rank_of(state, c, i);
         if 0 < rank && high <= rank {
             won = i;
@@ -45,5 +48,6 @@ pub fn is_notified(state: &State, c: usize) -> bool
     ensures { result ≡ notified state.now c }
 {
     let threshold = state.settings.threshold[c];
-    (1..state.shape.sources as usize + 1).any(|i| threshold < rank_of(state, c, i))
+    (1..state.shape.sources as usize + 1).any(|i| is_pending(&state.requests, i)
+        && threshold < rank_of(state, c, i))
 }

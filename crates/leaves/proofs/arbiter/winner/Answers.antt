@@ -1,11 +1,17 @@
-use Rattle.std.proofs.Common.{◌∙◌, sym, arith, ◌-◌}
+use Rattle.std.proofs.Common.{◌∙◌, refl, sym, arith, ◌-◌}
 use mathlib.Core.Logic.{inl, inr, ⊎_elim}
 use Rattle.model.specs.Life.{winner}
-use Rattle.leaves.proofs.Ranks.{rank_read, rank_zero, down_first, taken, passed, down_best}
+use Rattle.leaves.proofs.Ranks.{rank_read, rank_idle, rank_zero, down_first, taken, passed, down_best}
 use Rattle.leaves.proofs.arbiter.winner.Goals as goal
 
 pub loop-i-init : goal.loop-i-init
 loop-i-init c = (omega arith, down_first _ _ (rank_zero c.args.state.now c.args.c))
+
+pub loop-i-preserved-then-not-is_pending : goal.loop-i-preserved-then-not-is_pending
+loop-i-preserved-then-not-is_pending c =
+    let idle = rank_idle c.args.state.now c.args.c (c.loop-i.i - 1) (omega arith) (omega arith)
+    (sym c.is_pending.ensures ∙ c.if-not-is_pending.true) in
+    (omega arith, passed _ _ _ _ _ 0 c.loop-i.invariant.1 (omega arith) (omega arith) (sym idle) (inl refl))
 
 pub loop-i-preserved-then-high-rank : goal.loop-i-preserved-then-high-rank
 loop-i-preserved-then-high-rank c =
