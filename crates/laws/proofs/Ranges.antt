@@ -33,11 +33,13 @@ any_range f a (suc n) =
     ap₂ ◌||◌ (ap f (sym (add-zero a))) (any_range f (a + 1) n ∙ (λ k. any_to (λ i. f (shifted a i k)) n))
     ∙ sym (any_front (λ i. f (a + i)) n)
 
--- over the indices from 1 on, where the one before is none
-pub any_from_one : (f g : ℕ → Bool) (n : ℕ) → ((i : ℕ) → 1 ≤ i → i ≤ n → g i ≡ f i) → f 0 ≡ false → list_any g (range_with_len 1 n) ≡ any_to f (suc n)
+-- over the indices from 1 on, each one more than that of the list, where the index before them is none
+pub any_from_one : (f g : ℕ → Bool) (n : ℕ) → ((i : ℕ) → 1 ≤ i → i ≤ n → g i ≡ f i) → f 0 ≡ false →
+    list_any (λ i. g (i + 1)) (range_with_len 0 n) ≡ any_to f (suc n)
 any_from_one f g n same none =
-    any_range g 1 n ∙ any_ext (λ i. g (1 + i)) (λ i. f (suc i)) n (λ i h. same (1 + i) (omega arith) (omega arith) ∙ ap f (one_more i))
+    any_range (λ i. g (i + 1)) 0 n
+    ∙ any_ext (λ i. g (0 + i + 1)) (λ i. f (suc i)) n (λ i h. same (0 + i + 1) (omega arith) (omega arith) ∙ ap f (one_more i))
     ∙ sym (ap (λ (b : Bool). b || any_to (λ i. f (suc i)) n) none) ∙ sym (any_front f n)
   where
-    one_more : (i : ℕ) → 1 + i ≡ suc i
+    one_more : (i : ℕ) → 0 + i + 1 ≡ suc i
     one_more i = omega arith

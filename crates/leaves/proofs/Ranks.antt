@@ -3,7 +3,7 @@
 use mathlib.Core.Path.{◌≡◌, ◌∙◌, refl, sym, ap, subst}
 use mathlib.Core.Bool.{Bool, true, false, cond, ◌&&◌, and-true}
 use mathlib.Core.Logic.{◌⊎◌, ⊎_elim}
-use Prim.Native.Nat.{ℕ, zero, suc, ◌+◌, ◌-◌, ◌≤◌, ◌<◌}
+use Prim.Native.Nat.{ℕ, zero, suc, ◌+◌, ◌≤◌, ◌<◌}
 use native.Mathlib.Nat.{eq-or-lt_of_le}
 use lib.Dec.{leb, ltb}
 use native.Mathlib.Omega.{arith}
@@ -72,16 +72,16 @@ module _ (s : State) (c : ℕ) where
   unfolding rouses
   rouses_zero = and_left _ _ no_zero
 
--- what going down from n has found from i on: the best of those sources, the lowest of several; 0 where none is worth anything
+-- what going down from n has found above i: the best of those sources, the lowest of several; 0 where none is worth anything
 pub record Down (f : ℕ → ℕ) (n i won high : ℕ) : Type 0 where
   pub worth : high ≡ f won
   pub within : won ≤ n
   pub some : 0 < won → 0 < high
-  pub highest : (j : ℕ) → i ≤ j → j ≤ n → f j ≤ high
-  pub lowest : (j : ℕ) → i ≤ j → j < won → f j < high
+  pub highest : (j : ℕ) → i < j → j ≤ n → f j ≤ high
+  pub lowest : (j : ℕ) → i < j → j < won → f j < high
 
 -- above n there is nothing
-pub down_first : (f : ℕ → ℕ) (n : ℕ) → f 0 ≡ 0 → Down f n (n + 1) 0 0
+pub down_first : (f : ℕ → ℕ) (n : ℕ) → f 0 ≡ 0 → Down f n n 0 0
 down_first f n z = record {
   worth = sym z;
   within = omega arith;
@@ -90,13 +90,15 @@ down_first f n z = record {
   lowest = λ j h k. absurd (omega arith);
 }
 
--- one more source considered: it wins, or what has won before stays
-module _ (f : ℕ → ℕ) (n i won high rank : ℕ) (d : Down f n i won high) (low : 1 < i) (top : i ≤ n + 1) (next : rank ≡ f (i - 1)) where
-  -- what holds from i on and at the next source holds from that one on
-  lower : (P : ℕ → Type 0) → P (i - 1) → ((j : ℕ) → i ≤ j → P j) → (j : ℕ) → i - 1 ≤ j → P j
-  lower P p h j k = ⊎_elim (λ (e : i - 1 ≡ j). subst P e p) (λ l. h j (omega arith)) (eq-or-lt_of_le k)
+-- one more source considered, the one after e: it wins, or what has won before stays
+module _ (f : ℕ → ℕ) (n i e won high rank : ℕ) (d : Down f n i won high) (is : i ≡ e + 1) (top : i ≤ n) (next : rank ≡ f (e + 1)) where
+  -- what holds above i and at the source after e holds above e
+  lower : (P : ℕ → Type 0) → P (e + 1) → ((j : ℕ) → i < j → P j) → (j : ℕ) → e < j → P j
+  lower P p h j k =
+      let more : e + 1 ≤ j = omega arith in
+      ⊎_elim (λ (same : e + 1 ≡ j). subst P same p) (λ l. h j (omega arith)) (eq-or-lt_of_le more)
 
-  pub taken : 0 < rank → high ≤ rank → Down f n (i - 1) (i - 1) rank
+  pub taken : 0 < rank → high ≤ rank → Down f n e (e + 1) rank
   taken some more = record {
     worth = next;
     within = omega arith;
@@ -105,7 +107,7 @@ module _ (f : ℕ → ℕ) (n i won high rank : ℕ) (d : Down f n i won high) (
     lowest = λ j h k. absurd (omega arith);
   }
 
-  pub passed : (rank ≡ 0) ⊎ (rank < high) → Down f n (i - 1) won high
+  pub passed : (rank ≡ 0) ⊎ (rank < high) → Down f n e won high
   passed less = record {
     worth = d.worth;
     within = d.within;
@@ -117,7 +119,7 @@ module _ (f : ℕ → ℕ) (n i won high rank : ℕ) (d : Down f n i won high) (
   }
 
 -- with every source considered it is the best
-pub down_best : (f : ℕ → ℕ) (n i won high : ℕ) → i ≤ 1 → f 0 ≡ 0 → Down f n i won high → won ≡ best f (suc n)
+pub down_best : (f : ℕ → ℕ) (n i won high : ℕ) → i ≤ 0 → f 0 ≡ 0 → Down f n i won high → won ≡ best f (suc n)
 down_best f n i won high e z d = best_once f (suc n)
     (record { within = omega (arith, d.within); highest = highest; lowest = lowest })
     (best_is f n z)

@@ -29,14 +29,15 @@ pub fn winner(state: &State, c: usize) -> usize
 {
     let mut won = 0;
     let mut high = 0;
-    for i in (1..state.shape.sources as usize + 1).rev() {
-        if !is_pending(&state.requests, i) {
-            continue;
-        }
-        let rank = rank_of(state, c, i);
-        if 0 < rank && high <= rank {
-            won = i;
-            high = rank;
+    for i in (0..state.shape.sources as usize).rev() {
+        let source = i + 1;
+        // first what fails for most sources, in a test of its own: four instructions for one that is not pending
+        if is_pending(&state.requests, source) {
+            let rank = rank_of(state, c, source);
+            if 0 < rank && high <= rank {
+                won = source;
+                high = rank;
+            }
         }
     }
     won
@@ -48,6 +49,6 @@ pub fn is_notified(state: &State, c: usize) -> bool
     ensures { result ≡ notified state.now c }
 {
     let threshold = state.settings.threshold[c];
-    (1..state.shape.sources as usize + 1).any(|i| is_pending(&state.requests, i)
-        && threshold < rank_of(state, c, i))
+    (0..state.shape.sources as usize).any(|i| is_pending(&state.requests, i + 1)
+        && threshold < rank_of(state, c, i + 1))
 }

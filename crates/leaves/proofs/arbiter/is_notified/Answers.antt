@@ -14,7 +14,7 @@ unfolding notified threshold
 returns c =
     let s = c.args.state.now in
     let n : ℕ = s.shape.sources in
-    any_from_yields_List (λ i. ltb (threshold s.settings c.args.c) (read_rank s c.args.c i)) _ _ c.any.result c.any.ensures.ran
-    (YieldsList-from_range 1 (n + 1) n refl (omega arith))
+    any_from_yields_List (λ i. ltb (threshold s.settings c.args.c) (read_rank s c.args.c (i + 1))) _ _ c.any.result c.any.ensures.ran
+    (YieldsList-from_range 0 n n refl (omega arith))
     (λ x b q k. search (rules, tests))
-    ∙ any_from_one (rouses s c.args.c) _ n (λ i low high. sym (rouses_read s c.args.c i low high)) (rouses_zero s c.args.c)
+    ∙ any_from_one (rouses s c.args.c) (λ i. ltb (threshold s.settings c.args.c) (read_rank s c.args.c i)) n (λ i low high. sym (rouses_read s c.args.c i low high)) (rouses_zero s c.args.c)
