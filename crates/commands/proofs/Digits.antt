@@ -1,251 +1,259 @@
--- The laws of digits: what the byte by byte readings of a word find is the value of the word.
+-- The laws of digits: what is left of a number or an offset, one byte on.
 -- Assumes nothing.
-use mathlib.Core.Path.{◌≡◌, ◌∙◌, refl, sym, ap, ap₂}
-use mathlib.Core.Bool.{Bool, true, false, not, cond, ◌&&◌, So}
-use mathlib.Core.Logic.{⊎_elim}
-use mathlib.Core.List.{List, [], ◌∷◌}
-use Prim.Native.Nat.{ℕ, zero, suc, ◌+◌, ◌-◌, ◌*◌, ◌≤◌, ◌<◌}
-use native.Mathlib.Nat.{le_refl, add-zero}
-use native.Mathlib.Numerals.{add-one}
-use native.Mathlib.Omega.{arith}
-use lib.Dec.{eqb, leb, eqb-zero-suc, eqb-suc-zero, eqb-suc-suc}
-use lib.ListN.{length, get_or, drop}
-use lib.Seq.{drop-cons}
-use borrow.Author.Tests.{leb-true, leb-false, le-leb, lt-leb, eqb-true, ne_eqb}
-use Rattle.laws.proofs.Truth.{dichotomy, not_so, so_not, cond_so, cond_not, cond_elim, and_left, and_right, and_fails_left, and_fails_right, or_cases}
-use Rattle.commands.specs.declared.scan.Value.{Value}
-use Rattle.commands.specs.declared.scan.Value.TheVariants.{Is, Nothing}
-use Rattle.commands.specs.Grammar.{is_digit, is_hex_digit, hex_digit, every, no_needless_zero, decimal_from, decimal, is_number, hex_from, hex, is_offset}
-use Rattle.commands.specs.Leaves.{first_word, value_of, ends_with, digits_from, hex_worth}
-use Rattle.commands.proofs.Words.{cond_same}
+use Rattle.std.proofs.Common.{◌≡◌, ◌∙◌, refl, sym, ap, ℕ, suc, ◌+◌, ◌-◌, ◌*◌, ◌^◌, ◌≤◌, ◌<◌, Bool, true, false, not, cond, ◌&&◌, List, [], ◌∷◌, Option, Some, None, length-drop, eqb, leb, ltb, length, get_or, drop, drop-cons, drop_of_length-le, lt-ltb, le-ltb, ⊎_elim, lit≤, pow-suc, arith, add-zero, zero-add, add-one, le-leb, leb-true, ne_eqb, eqb-true}
+use Rattle.std.proofs.Math.Bool.{So}
+use Rattle.std.proofs.Math.Nat.{pow-le-pow_right}
+use Rattle.std.proofs.lemmas.Bool.{lt-leb, cases_lt}
+use Rattle.std.proofs.lemmas.Grind.{common_steps}
+use Rattle.std.proofs.lemmas.Option.{cond_some}
+use Rattle.std.specs.Char.{IsAsciiDigit, IsNotAsciiDigit}
+use Rattle.std.specs.List.{list_all}
+use Rattle.laws.proofs.Truth.{and_intro, not_so, so_not, cond_so, cond_not, and_left, and_right, and_fails_left, and_fails_right}
+use Rattle.commands.specs.declared.scan.Word.{Word}
+use Rattle.commands.specs.Grammar.{is_digit, is_hex_digit, hex_digit, no_needless_zero, decimal_from, decimal, is_number, hex_from, hex, is_offset}
+use Rattle.commands.specs.Leaves.{first_word, value_of, number_at, offset_at, ends_with, number_rest, hex_worth}
+use Rattle.commands.proofs.Words.{first_length}
+
+-- a word that is found
+abbrev found : ℕ → ℕ → Option Word
+found v e = Some (record { value = v; end = e })
+
+-- a word is of no form
+not_of : (form : List ℕ → Bool) (value : List ℕ → ℕ) (l : List ℕ) (at : ℕ) → form (first_word l) ≡ false → value_of form value l at ≡ None
+unfolding value_of
+not_of form value l at h = cond_not _ _ h
+
+-- a byte that is no space is the first of the word
+value_more : (form : List ℕ → Bool) (value : List ℕ → ℕ) (b : ℕ) (bs : List ℕ) (at : ℕ) → eqb b 32 ≡ false →
+    value_of form value (b ∷ bs) at ≡ value_of (λ w. form (b ∷ w)) (λ w. value (b ∷ w)) bs (at + 1)
+unfolding value_of first_word
+value_more form value b bs at h =
+    ap (λ (w : List ℕ). cond (form w) (found (value w) (at + length w)) None) (cond_not [] (b ∷ first_word bs) h)
+    ∙ ap (λ (e : ℕ). cond (form (b ∷ first_word bs)) (found (value (b ∷ first_word bs)) e) None) (omega arith)
+
+-- .. and of no form where no word is that begins with it
+more_not : (form : List ℕ → Bool) (value : List ℕ → ℕ) (b : ℕ) (bs : List ℕ) (at : ℕ) → eqb b 32 ≡ false →
+    ((w : List ℕ) → form (b ∷ w) ≡ false) → value_of form value (b ∷ bs) at ≡ None
+more_not form value b bs at h k = value_more form value b bs at h ∙ not_of (λ w. form (b ∷ w)) (λ w. value (b ∷ w)) bs (at + 1) (k (first_word bs))
+
+pub digit_bounds : (b : ℕ) → So (is_digit b) → (48 ≤ b) × (b ≤ 57)
+unfolding is_digit
+digit_bounds b h = (leb-true 48 b (and_left (leb 48 b) (leb b 57) h), leb-true b 57 (and_right (leb 48 b) (leb b 57) h))
+
+is_digit_so : (b : ℕ) → IsAsciiDigit b → So (is_digit b)
+unfolding is_digit
+is_digit_so b h = and_intro (le-leb 48 b h.0) (le-leb b 57 h.1)
+
+is_digit_not : (b : ℕ) → IsNotAsciiDigit b → is_digit b ≡ false
+unfolding is_digit
+is_digit_not b h = ⊎_elim (λ (k : b < 48). and_fails_left (leb b 57) (lt-leb 48 b k)) (λ (k : 57 < b). and_fails_right (leb 48 b) (lt-leb b 57 k)) h
+
+digit_no_space : (b : ℕ) → So (is_digit b) → eqb b 32 ≡ false
+digit_no_space b h = ne_eqb b 32 (omega (arith, digit_bounds b h))
 
 -- more digits are worth no less
 decimal_grows : (w : List ℕ) (v : ℕ) → v ≤ decimal_from v w
 unfolding decimal_from
-decimal_grows [] v = le_refl v
+decimal_grows [] v = omega arith
 decimal_grows (b ∷ bs) v = omega (arith, decimal_grows bs (v * 10 + (b - 48)))
 
--- what a word of digits says that follows digits worth v
-abbrev digits_of : ℕ → List ℕ → ℕ → Value
-digits_of v w at = cond (every is_digit w && leb (decimal_from v w) 4294967295) (Is (decimal_from v w) (at + length w)) Nothing
+-- what is left of a number at a place: a digit, ..
+module _ (v : ℕ) (l : List ℕ) (i : ℕ) (h : i < length l) where
+  digit_first : So (is_digit (get_or l i 0)) → number_rest v (drop i l) i
+      ≡ value_of (λ w. list_all is_digit w && leb (decimal_from (v * 10 + (get_or l i 0 - 48)) w) 4294967295) (decimal_from (v * 10 + (get_or l i 0 - 48))) (drop (i + 1) l) (i + 1)
+  unfolding number_rest decimal_from
+  digit_first d =
+      ap (λ (m : List ℕ). number_rest v m i) (drop-cons l i 0 h)
+      ∙ value_more _ _ (get_or l i 0) (drop (suc i) l) i (digit_no_space (get_or l i 0) d)
+      ∙ (λ k. value_of (λ w. (d k && list_all is_digit w) && leb (decimal_from (v * 10 + (get_or l i 0 - 48)) w) 4294967295) (decimal_from (v * 10 + (get_or l i 0 - 48))) (drop (sym (add-one i) k) l) (i + 1))
 
-no_digits : (v at : ℕ) → v ≤ 4294967295 → Is v at ≡ digits_of v [] at
-unfolding every decimal_from
-no_digits v at h = ap (Is v) (sym (add-zero at)) ∙ sym (cond_so _ _ (le-leb v 4294967295 h))
+  pub number_digit : IsAsciiDigit (get_or l i 0) → number_rest v (drop i l) i ≡ number_rest (v * 10 + (get_or l i 0 - 48)) (drop (i + 1) l) (i + 1)
+  unfolding number_rest
+  number_digit d = digit_first (is_digit_so (get_or l i 0) d)
 
-digits_past : (v at : ℕ) (w : List ℕ) → 4294967295 < decimal_from v w → digits_of v w at ≡ Nothing
-digits_past v at w h =
-    cond_not (Is (decimal_from v w) (at + length w)) Nothing (and_fails_right (every is_digit w) (lt-leb _ _ h))
+  -- .. one that is too many, ..
+  pub number_past : IsAsciiDigit (get_or l i 0) → 4294967295 < v * 10 + (get_or l i 0 - 48) → number_rest v (drop i l) i ≡ None
+  number_past d past =
+      digit_first (is_digit_so (get_or l i 0) d)
+      ∙ not_of _ _ (drop (i + 1) l) (i + 1)
+      (and_fails_right (list_all is_digit (first_word (drop (i + 1) l))) (lt-leb _ _ (omega (arith, decimal_grows (first_word (drop (i + 1) l)) (v * 10 + (get_or l i 0 - 48))))))
 
--- a digit more
-module _ (b : ℕ) (bs : List ℕ) (v at : ℕ) where
-  abbrev next : ℕ
-  next = v * 10 + (b - 48)
-
-  more : Value
-  more = cond (leb next 4294967295) (digits_from next bs (suc at)) Nothing
-
-  digit_more : (next ≤ 4294967295 → digits_from next bs (suc at) ≡ digits_of next (first_word bs) (suc at)) →
-      more ≡ digits_of next (first_word bs) (suc at)
-  unfolding more
-  digit_more ih = ⊎_elim
-      (λ t. cond_so _ _ t ∙ ih (leb-true next 4294967295 t))
-      (λ t.
-      let past : 4294967295 < decimal_from next (first_word bs) = omega (arith, leb-false next 4294967295 t, decimal_grows (first_word bs) next) in
-      cond_not _ _ t ∙ sym (digits_past next (suc at) (first_word bs) past))
-      (dichotomy (leb next 4294967295))
-
-  digit_cases : v ≤ 4294967295 → more ≡ digits_of next (first_word bs) (suc at) → (t u : Bool) → is_digit b ≡ u →
-      cond t (Is v at) (cond u more Nothing) ≡ digits_of v (cond t [] (b ∷ first_word bs)) at
-  unfolding every decimal_from
-  digit_cases h e true u d = no_digits v at h
-  digit_cases h e false true d =
-      e
-      ∙ ap₂ (λ (t : Bool) (n : ℕ). cond (t && leb (decimal_from next (first_word bs)) 4294967295) (Is (decimal_from next (first_word bs)) n) Nothing)
-      (ap (λ (t : Bool). t && every is_digit (first_word bs)) (sym d)) (omega arith)
-  digit_cases h e false false d = sym (cond_not _ _ (and_fails_left _ (and_fails_left _ d)))
-
-digits_are : (l : List ℕ) (v at : ℕ) → v ≤ 4294967295 → digits_from v l at ≡ digits_of v (first_word l) at
-unfolding digits_from first_word more
-digits_are [] v at h = no_digits v at h
-digits_are (b ∷ bs) v at h =
-    digit_cases b bs v at h (digit_more b bs v at (digits_are bs (next b bs v at) (suc at))) (eqb b 32) (is_digit b) refl
-
--- the first digit of a number: nothing, a zero, or another
-
-abbrev number_in : List ℕ → ℕ → Value
-number_in l at = value_of is_number decimal l at
-
-pub number_none : (at : ℕ) → number_in [] at ≡ Nothing
-unfolding value_of first_word is_number no_needless_zero
-number_none at = refl
-
-pub number_not : (b : ℕ) (bs : List ℕ) (at : ℕ) → is_digit b ≡ false → number_in (b ∷ bs) at ≡ Nothing
-unfolding value_of first_word is_number no_needless_zero every
-number_not b bs at h = by_cases (eqb b 32)
+-- .. and any other byte, or none
+number_stops : (v b : ℕ) (bs : List ℕ) (at : ℕ) → v ≤ 4294967295 → is_digit b ≡ false → number_rest v (b ∷ bs) at ≡ ends_with v (b ∷ bs) at
+unfolding number_rest value_of first_word ends_with decimal_from
+number_stops v b bs at h d = by_cases (eqb b 32)
   where
-    by_cases : (t : Bool) →
-        cond (is_number (cond t [] (b ∷ first_word bs)))
-        (Is (decimal (cond t [] (b ∷ first_word bs))) (at + length (cond t [] (b ∷ first_word bs)))) Nothing ≡ Nothing
-    by_cases true = refl
-    by_cases false =
-        cond_not (Is (decimal (b ∷ first_word bs)) (at + suc (length (first_word bs)))) Nothing
-        (and_fails_left (leb (decimal (b ∷ first_word bs)) 4294967295)
-        (and_fails_right (no_needless_zero (b ∷ first_word bs)) (and_fails_left (every is_digit (first_word bs)) h)))
+    by_cases : (t : Bool) → let w : List ℕ = cond t [] (b ∷ first_word bs) in
+        cond (list_all is_digit w && leb (decimal_from v w) 4294967295) (found (decimal_from v w) (at + length w)) None
+        ≡ cond t (found v at) None
+    by_cases true = cond_so _ _ (le-leb v 4294967295 h) ∙ ap (λ (e : ℕ). found v e) (add-zero at)
+    by_cases false = cond_not _ _ (and_fails_left _ (and_fails_left _ d))
 
-pub number_zero : (bs : List ℕ) (at : ℕ) → ends_with 0 bs (at + 1) ≡ number_in (48 ∷ bs) at
-unfolding value_of first_word is_number no_needless_zero every decimal decimal_from ends_with is_digit
-number_zero [] at = refl
-number_zero (b ∷ bs) at = by_cases (eqb b 32)
-  where
-    by_cases : (t : Bool) →
-        cond t (Is 0 (at + 1)) Nothing
-        ≡ cond (is_number (48 ∷ cond t [] (b ∷ first_word bs)))
-        (Is (decimal (48 ∷ cond t [] (b ∷ first_word bs))) (at + length (48 ∷ cond t [] (b ∷ first_word bs)))) Nothing
-    by_cases true = refl
-    by_cases false = refl
+number_ends : (v at : ℕ) → v ≤ 4294967295 → number_rest v [] at ≡ ends_with v [] at
+unfolding number_rest value_of first_word ends_with decimal_from
+number_ends v at h = cond_so _ _ (le-leb v 4294967295 h) ∙ ap (λ (e : ℕ). found v e) (add-zero at)
+
+pub number_end : (v : ℕ) (l : List ℕ) (i : ℕ) → v ≤ 4294967295 → length l ≤ i → number_rest v (drop i l) i ≡ ends_with v (drop i l) i
+number_end v l i h k =
+    ap (λ (m : List ℕ). number_rest v m i) (drop_of_length-le l k)
+    ∙ number_ends v i h
+    ∙ sym (ap (λ (m : List ℕ). ends_with v m i) (drop_of_length-le l k))
+
+pub number_stop : (v : ℕ) (l : List ℕ) (i : ℕ) → v ≤ 4294967295 → IsNotAsciiDigit (get_or l i 0) → number_rest v (drop i l) i ≡ ends_with v (drop i l) i
+number_stop v l i h d = ⊎_elim
+    (λ (k : i < length l). ap (λ (m : List ℕ). number_rest v m i) (drop-cons l i 0 k) ∙ number_stops v _ _ i h (is_digit_not (get_or l i 0) d) ∙ sym (ap (λ (m : List ℕ). ends_with v m i) (drop-cons l i 0 k)))
+    (λ (k : length l ≤ i). number_end v l i h k)
+    (cases_lt i (length l))
+
+pub ruleset number_steps = (common_steps, number_digit, number_past, number_stop, number_end)
 
 no_zero : (b : ℕ) (w : List ℕ) → eqb b 48 ≡ false → So (no_needless_zero (b ∷ w))
 unfolding no_needless_zero
 no_zero b [] h = refl
 no_zero b (c ∷ w) h = ap not h
 
-pub digit_bounds : (b : ℕ) → So (is_digit b) → (48 ≤ b) × (b ≤ 57)
-unfolding is_digit
-digit_bounds b h =
-    (leb-true 48 b (and_left (leb 48 b) (leb b 57) h), leb-true b 57 (and_right (leb 48 b) (leb b 57) h))
-
-digit_not_space : (b : ℕ) → So (is_digit b) → eqb b 32 ≡ false
-digit_not_space b h = ne_eqb b 32 (omega (arith, digit_bounds b h))
-
-pub number_more : (b : ℕ) (bs : List ℕ) (at : ℕ) → So (is_digit b) → eqb b 48 ≡ false → b - 48 ≤ 4294967295 →
-    digits_from (b - 48) bs (at + 1) ≡ number_in (b ∷ bs) at
-unfolding value_of first_word is_number every decimal decimal_from
-number_more b bs at d z h =
-    digits_are bs (b - 48) (at + 1) h
-    ∙ same (no_needless_zero (b ∷ first_word bs)) (is_digit b) (0 * 10 + (b - 48)) (at + suc (length (first_word bs)))
-    (no_zero b (first_word bs) z) d (omega arith) (omega arith)
-    ∙ sym (ap (λ (w : List ℕ). cond (is_number w) (Is (decimal w) (at + length w)) Nothing) (cond_not [] (b ∷ first_word bs) (digit_not_space b d)))
+zero_first : (bs : List ℕ) (at : ℕ) → value_of is_number decimal (48 ∷ bs) at ≡ ends_with 0 bs (at + 1)
+unfolding value_of first_word is_number no_needless_zero decimal decimal_from ends_with is_digit
+zero_first [] at = refl
+zero_first (b ∷ bs) at = by_cases (eqb b 32)
   where
-    same : (s t : Bool) (v e : ℕ) → So s → So t → b - 48 ≡ v → at + 1 + length (first_word bs) ≡ e →
-        digits_of (b - 48) (first_word bs) (at + 1)
-        ≡ cond (s && (t && every is_digit (first_word bs)) && leb (decimal_from v (first_word bs)) 4294967295) (Is (decimal_from v (first_word bs)) e) Nothing
-    same true true v e p q r u =
-        ap₂ (λ (v e : ℕ). cond (every is_digit (first_word bs) && leb (decimal_from v (first_word bs)) 4294967295) (Is (decimal_from v (first_word bs)) e) Nothing) r u
-    same true false v e p q r u = absurd (not_so refl q)
-    same false t v e p q r u = absurd (not_so refl p)
+    by_cases : (t : Bool) → let w : List ℕ = 48 ∷ cond t [] (b ∷ first_word bs) in
+        cond (is_number w) (found (decimal w) (at + length w)) None ≡ cond t (found 0 (at + 1)) None
+    by_cases true = refl
+    by_cases false = refl
 
--- hex digits, byte by byte: so many digits that follow those worth v
-unfoldable pub hex_digits_from : ℕ → ℕ → List ℕ → ℕ → Value
-hex_digits_from zero v l at = ends_with v l at
-hex_digits_from (suc k) v [] at = Nothing
-hex_digits_from (suc k) v (b ∷ bs) at = cond (is_hex_digit b) (hex_digits_from k (v * 16 + hex_digit b) bs (suc at)) Nothing
+-- the first byte of a number: none, ..
+pub number_none : (l : List ℕ) (at : ℕ) → length l ≤ at → number_at l at ≡ None
+unfolding value_of first_word is_number no_needless_zero
+number_none l at h = ap (λ (m : List ℕ). value_of is_number decimal m at) (drop_of_length-le l h)
 
--- what a word of so many says that follows hex digits worth v
-abbrev hex_digits_of : ℕ → ℕ → List ℕ → ℕ → Value
-hex_digits_of k v w at = cond (eqb (length w) k && every is_hex_digit w) (Is (hex_from v w) (at + length w)) Nothing
+module _ (l : List ℕ) (at : ℕ) (h : at < length l) where
+  first_byte : number_at l at ≡ value_of is_number decimal (get_or l at 0 ∷ drop (at + 1) l) at
+  first_byte = (λ i. value_of is_number decimal (drop-cons l at 0 h i) at) ∙ (λ i. value_of is_number decimal (get_or l at 0 ∷ drop (sym (add-one at) i) l) at)
 
-no_hex_digit : (v at : ℕ) → Is v at ≡ hex_digits_of 0 v [] at
-unfolding every hex_from
-no_hex_digit v at = ap (Is v) (sym (add-zero at))
+  -- .. no digit, ..
+  pub number_not : IsNotAsciiDigit (get_or l at 0) → number_at l at ≡ None
+  unfolding first_word is_number no_needless_zero
+  number_not d = first_byte ∙ not_of is_number decimal _ at (by_cases (eqb (get_or l at 0) 32))
+    where
+      by_cases : (t : Bool) → is_number (cond t [] (get_or l at 0 ∷ first_word (drop (at + 1) l))) ≡ false
+      by_cases true = refl
+      by_cases false =
+          let w = get_or l at 0 ∷ first_word (drop (at + 1) l) in
+          and_fails_left (leb (decimal w) 4294967295) (and_fails_right (no_needless_zero w) (and_fails_left (list_all is_digit (first_word (drop (at + 1) l))) (is_digit_not _ d)))
 
-ends_are : (l : List ℕ) (v at : ℕ) → ends_with v l at ≡ hex_digits_of 0 v (first_word l) at
-unfolding ends_with first_word
-ends_are [] v at = no_hex_digit v at
-ends_are (b ∷ bs) v at = by_cases (eqb b 32)
-  where
-    by_cases : (t : Bool) → cond t (Is v at) Nothing ≡ hex_digits_of 0 v (cond t [] (b ∷ first_word bs)) at
-    by_cases true = no_hex_digit v at
-    by_cases false = sym (cond_not _ _ (and_fails_left (every is_hex_digit (b ∷ first_word bs)) (eqb-suc-zero (length (first_word bs)))))
+  -- .. a zero, which must end the word, ..
+  pub number_zero : get_or l at 0 ≡ 48 → number_at l at ≡ ends_with 0 (drop (at + 1) l) (at + 1)
+  number_zero z = first_byte ∙ ap (λ (b : ℕ). value_of is_number decimal (b ∷ drop (at + 1) l) at) z ∙ zero_first (drop (at + 1) l) at
 
-too_few : (k v at : ℕ) → Nothing ≡ hex_digits_of (suc k) v [] at
-too_few k v at = sym (cond_not _ _ (and_fails_left (every is_hex_digit []) (eqb-zero-suc k)))
+  -- .. or another digit
+  pub number_more : (49 ≤ get_or l at 0) × (get_or l at 0 ≤ 57) → number_at l at ≡ number_rest (get_or l at 0 - 48) (drop (at + 1) l) (at + 1)
+  unfolding number_rest is_number decimal decimal_from
+  number_more d =
+      first_byte
+      ∙ value_more is_number decimal (get_or l at 0) (drop (at + 1) l) at (digit_no_space _ (is_digit_so _ digit))
+      ∙ (λ i. value_of (λ w. no_zero _ w nonzero i && (is_digit_so _ digit i && list_all is_digit w) && leb (decimal_from (worth i) w) 4294967295) (decimal_from (worth i)) (drop (at + 1) l) (at + 1))
+    where
+      digit : IsAsciiDigit (get_or l at 0)
+      digit = (omega arith, d.1)
 
-space_none : is_hex_digit 32 ≡ false
+      nonzero : eqb (get_or l at 0) 48 ≡ false
+      nonzero = ne_eqb _ _ (omega arith)
+
+      worth : 0 * 10 + (get_or l at 0 - 48) ≡ get_or l at 0 - 48
+      worth = omega arith
+
+pub ruleset number_starts = (common_steps, number_none, number_not, number_zero, number_more)
+
+space_not : is_hex_digit 32 ≡ false
 unfolding is_hex_digit is_digit
-space_none = refl
+space_not = refl
 
--- one hex digit more
-hex_more : (k v at b : ℕ) (w : List ℕ) (u : Bool) → is_hex_digit b ≡ u →
-    cond u (hex_digits_of k (v * 16 + hex_digit b) w (suc at)) Nothing ≡ hex_digits_of (suc k) v (b ∷ w) at
-unfolding every hex_from
-hex_more k v at b w true d =
-    ap₂ (λ (t : Bool) (n : ℕ). cond t (Is (hex_from (v * 16 + hex_digit b) w) n) Nothing)
-    (ap₂ ◌&&◌ (sym (eqb-suc-suc (length w) k)) (ap (λ (u : Bool). u && every is_hex_digit w) (sym d))) (omega arith)
-hex_more k v at b w false d =
-    sym (cond_not _ _ (and_fails_right (eqb (suc (length w)) (suc k)) (and_fails_left (every is_hex_digit w) d)))
+hex_no_space : (b : ℕ) → So (is_hex_digit b) → eqb b 32 ≡ false
+hex_no_space b h = so_not (eqb b 32) (λ e. not_so space_not (sym (ap is_hex_digit (eqb-true b 32 e)) ∙ h))
 
-hex_digits_are : (k : ℕ) (l : List ℕ) (v at : ℕ) → hex_digits_from k v l at ≡ hex_digits_of k v (first_word l) at
-unfolding hex_digits_from first_word
-hex_digits_are zero l v at = ends_are l v at
-hex_digits_are (suc k) [] v at = too_few k v at
-hex_digits_are (suc k) (b ∷ bs) v at =
-    ap (λ (x : Value). cond (is_hex_digit b) x Nothing) (hex_digits_are k bs (v * 16 + hex_digit b) (suc at))
-    ∙ by_cases (eqb b 32) refl
+-- what is left of the offset at a place, of which j digits are read and worth v: all of it, ..
+unfoldable pub offset_left : List ℕ → ℕ → ℕ → ℕ → Option Word
+offset_left l at j v = value_of (λ w. eqb (j + length w) 8 && list_all is_hex_digit w) (hex_from v) (drop (at + j) l) (at + j)
+
+pub offset_whole : (l : List ℕ) (at : ℕ) → offset_left l at 0 0 ≡ offset_at l at
+unfolding offset_left is_offset hex
+offset_whole l at =
+    (λ i. value_of (λ w. eqb (zero-add (length w) i) 8 && list_all is_hex_digit w) (hex_from 0) (drop (add-zero at i) l) (add-zero at i))
+
+-- .. which fewer than eight bytes are not, ..
+pub offset_short : (l : List ℕ) (at : ℕ) → length l < at + 8 → offset_at l at ≡ None
+unfolding is_offset
+offset_short l at h =
+    not_of is_offset hex (drop at l) at
+    (and_fails_left (list_all is_hex_digit (first_word (drop at l))) (ne_eqb _ _ (omega (arith, first_length (drop at l), length-drop at l))))
+
+module _ (l : List ℕ) (at j v : ℕ) (h : at + j < length l) where
+  abbrev byte : ℕ
+  byte = get_or l (at + j) 0
+
+  here : drop (at + j) l ≡ byte ∷ drop (at + (j + 1)) l
+  here = let next : suc (at + j) ≡ at + (j + 1) = omega arith in drop-cons l (at + j) 0 h ∙ ap (λ (k : ℕ). byte ∷ drop k l) next
+
+  -- .. one digit less, ..
+  pub offset_digit : (d : ℕ) → Some d ≡ hex_worth byte → offset_left l at j v ≡ offset_left l at (j + 1) (v * 16 + d)
+  unfolding offset_left hex_worth hex_from
+  offset_digit d e =
+      let is = cond_some _ _ d (sym e) in
+      ap (λ (m : List ℕ). value_of (λ w. eqb (j + length w) 8 && list_all is_hex_digit w) (hex_from v) m (at + j)) here
+      ∙ value_more _ _ byte (drop (at + (j + 1)) l) (at + j) (hex_no_space byte is.0)
+      ∙ (λ i. value_of (λ w. eqb (counted (length w) i) 8 && (is.0 i && list_all is_hex_digit w)) (hex_from (v * 16 + is.1 i)) (drop (at + (j + 1)) l) (placed i))
+    where
+      counted : (n : ℕ) → j + suc n ≡ j + 1 + n
+      counted n = omega arith
+
+      placed : at + j + 1 ≡ at + (j + 1)
+      placed = omega arith
+
+  -- .. a byte that is none, ..
+  pub offset_not : j < 8 → None ≡ hex_worth byte → offset_left l at j v ≡ None
+  unfolding offset_left hex_worth first_word
+  offset_not k e =
+      ap (λ (m : List ℕ). value_of (λ w. eqb (j + length w) 8 && list_all is_hex_digit w) (hex_from v) m (at + j)) here
+      ∙ not_of (λ w. eqb (j + length w) 8 && list_all is_hex_digit w) (hex_from v) _ _ (by_cases (eqb byte 32))
+    where
+      no_digit : (t : Bool) → None ≡ cond t (Some (hex_digit byte)) None → t ≡ false
+      no_digit true e = cc
+      no_digit false e = refl
+
+      by_cases : (t : Bool) → let w : List ℕ = cond t [] (byte ∷ first_word (drop (at + (j + 1)) l)) in (eqb (j + length w) 8 && list_all is_hex_digit w) ≡ false
+      by_cases true = and_fails_left true (ne_eqb (j + 0) 8 (omega arith))
+      by_cases false = and_fails_right (eqb (j + suc (length (first_word (drop (at + (j + 1)) l)))) 8) (and_fails_left _ (no_digit (is_hex_digit byte) e))
+
+-- .. and the end of the word
+rest_ends : (v : ℕ) (l : List ℕ) (at : ℕ) → value_of (λ w. eqb (8 + length w) 8 && list_all is_hex_digit w) (hex_from v) l at ≡ ends_with v l at
+unfolding value_of first_word ends_with hex_from
+rest_ends v [] at = ap (λ (e : ℕ). found v e) (add-zero at)
+rest_ends v (b ∷ bs) at = by_cases (eqb b 32)
   where
-    by_cases : (t : Bool) → eqb b 32 ≡ t →
-        cond (is_hex_digit b) (hex_digits_of k (v * 16 + hex_digit b) (first_word bs) (suc at)) Nothing
-        ≡ hex_digits_of (suc k) v (cond t [] (b ∷ first_word bs)) at
-    by_cases true e = cond_not _ _ (ap is_hex_digit (eqb-true b 32 e) ∙ space_none) ∙ too_few k v at
-    by_cases false e = hex_more k v at b (first_word bs) (is_hex_digit b) refl
+    by_cases : (t : Bool) → let w : List ℕ = cond t [] (b ∷ first_word bs) in
+        cond (eqb (8 + length w) 8 && list_all is_hex_digit w) (found (hex_from v w) (at + length w)) None ≡ cond t (found v at) None
+    by_cases true = ap (λ (e : ℕ). found v e) (add-zero at)
+    by_cases false = cond_not _ _ (and_fails_left (list_all is_hex_digit (b ∷ first_word bs)) (ne_eqb (8 + suc (length (first_word bs))) 8 (omega arith)))
 
-pub offset_is : (l : List ℕ) (at : ℕ) → hex_digits_from 8 0 l at ≡ value_of is_offset hex l at
-unfolding value_of is_offset hex
-offset_is l at = hex_digits_are 8 l 0 at
+pub offset_ends : (l : List ℕ) (at v : ℕ) → offset_left l at 8 v ≡ ends_with v (drop (at + 8) l) (at + 8)
+unfolding offset_left
+offset_ends l at v = rest_ends v (drop (at + 8) l) (at + 8)
 
-pub hex_short : (k : ℕ) (l : List ℕ) (v at : ℕ) → length l < k → hex_digits_from k v l at ≡ Nothing
-unfolding hex_digits_from
-hex_short zero l v at h = absurd (omega arith)
-hex_short (suc k) [] v at h = refl
-hex_short (suc k) (b ∷ bs) v at h =
-    ap (λ (x : Value). cond (is_hex_digit b) x Nothing) (hex_short k bs (v * 16 + hex_digit b) (suc at) (omega arith))
-    ∙ cond_same (is_hex_digit b) Nothing
+-- digits so far are worth little enough for one more
+pub digits_fit : (v j : ℕ) → v < 16 ^ j → j < 8 → v * 16 + 16 ≤ 4294967296
+digits_fit v j h k = let below : j ≤ 7 = omega arith in omega (arith, pow-le-pow_right {n = 16} (lit≤ tt) below)
 
--- a byte that is worth more than 15 is no hex digit, and any other is one
+pub one_more : (v d j : ℕ) → v < 16 ^ j → d < 16 → v * 16 + d < 16 ^ (j + 1)
+one_more v d j h k = omega (arith, ap (λ (n : ℕ). 16 ^ n) (add-one j) ∙ pow-suc 16 j)
 
-hex_digit_small : (b : ℕ) → So (is_hex_digit b) → hex_digit b ≤ 15
-unfolding is_hex_digit hex_digit
-hex_digit_small b h = cond_elim (λ (n : ℕ). n ≤ 15) (is_digit b)
-    (λ t. omega (arith, digit_bounds b t))
-    (λ t. ⊎_elim (λ d. absurd (not_so t d)) (λ d. omega (arith, leb-true b 70 (and_right (leb 65 b) (leb b 70) d))) (or_cases (is_digit b) (leb 65 b && leb b 70) h))
+pub ruleset offset_steps = (common_steps, one_more, offset_whole, offset_short, offset_digit, offset_not, offset_ends, digits_fit)
 
-pub hex_worth_so : (b : ℕ) → hex_worth b ≤ 15 → So (is_hex_digit b) × (hex_worth b ≡ hex_digit b)
-unfolding hex_worth
-hex_worth_so b = by_cases (is_hex_digit b)
-  where
-    by_cases : (t : Bool) → cond t (hex_digit b) 16 ≤ 15 → So t × (cond t (hex_digit b) 16 ≡ hex_digit b)
-    by_cases true h = (refl, refl)
-    by_cases false h = absurd (omega arith)
-
-pub hex_worth_not : (b : ℕ) → 15 < hex_worth b → is_hex_digit b ≡ false
-unfolding hex_worth
-hex_worth_not b h = so_not (is_hex_digit b) (λ t.
-    let e : cond (is_hex_digit b) (hex_digit b) 16 ≡ hex_digit b = cond_so _ _ t in
-    omega (arith, hex_digit_small b t))
-
-pub hex_worth_digit : (b : ℕ) → So (is_digit b) → hex_worth b ≡ b - 48
-unfolding hex_worth is_hex_digit hex_digit
-hex_worth_digit b h = simp h
-
-pub hex_worth_capital : (b : ℕ) → is_digit b ≡ false → So (leb 65 b && leb b 70) → hex_worth b ≡ b - 55
-unfolding hex_worth is_hex_digit hex_digit
-hex_worth_capital b h k = simp (h, k)
-
-pub hex_worth_other : (b : ℕ) → is_digit b ≡ false → (leb 65 b && leb b 70) ≡ false → hex_worth b ≡ 16
-unfolding hex_worth is_hex_digit hex_digit
-hex_worth_other b h k = simp (h, k)
-
--- one byte more of a line, as the code counts
-
-module _ (l : List ℕ) (v i : ℕ) (h : i < length l) where
-  pub digits_step : digits_from v (drop i l) i
-      ≡ cond (eqb (get_or l i 0) 32) (Is v i)
-      (cond (is_digit (get_or l i 0))
-      (cond (leb (v * 10 + (get_or l i 0 - 48)) 4294967295) (digits_from (v * 10 + (get_or l i 0 - 48)) (drop (i + 1) l) (i + 1)) Nothing) Nothing)
-  unfolding digits_from
-  digits_step = ap (λ (m : List ℕ). digits_from v m i) (drop-cons l i 0 h) ∙ rw add-one
-
-  pub hex_step : (k : ℕ) → hex_digits_from (suc k) v (drop i l) i
-      ≡ cond (is_hex_digit (get_or l i 0)) (hex_digits_from k (v * 16 + hex_digit (get_or l i 0)) (drop (i + 1) l) (i + 1)) Nothing
-  unfolding hex_digits_from
-  hex_step k = ap (λ (m : List ℕ). hex_digits_from (suc k) v m i) (drop-cons l i 0 h) ∙ rw add-one
+-- a word that ends at a place of a line: no byte stands there, or a space
+pub ends_at : (v : ℕ) (l : List ℕ) (at : ℕ) →
+    ends_with v (drop at l) at ≡ cond (ltb at (length l)) (cond (eqb (get_or l at 0) 32) (found v at) None) (found v at)
+unfolding ends_with
+ends_at v l at = ⊎_elim
+    (λ (h : at < length l). ap (λ (m : List ℕ). ends_with v m at) (drop-cons l at 0 h) ∙ sym (cond_so _ _ (lt-ltb _ _ h)))
+    (λ (h : length l ≤ at). ap (λ (m : List ℕ). ends_with v m at) (drop_of_length-le l h) ∙ sym (cond_not _ _ (le-ltb _ _ h)))
+    (cases_lt at (length l))

@@ -1,46 +1,61 @@
 -- The laws of a line's last word: the level of `L s v` and the kinds of `P N C b kinds`.
 -- Assumes nothing.
-use mathlib.Core.Path.{◌≡◌, ◌∙◌, refl, sym, ap, subst}
-use mathlib.Core.Bool.{Bool, true, false, cond, So}
-use mathlib.Core.Logic.{◌⊎◌, inl, inr, ⊎_elim, ◌≢◌}
-use mathlib.Core.List.{List, [], ◌∷◌}
-use Prim.Native.Nat.{ℕ, ◌-◌, ◌<◌}
-use native.Mathlib.Omega.{arith}
-use lib.Dec.{eqb}
-use lib.ListN.{length, drop, length-drop}
-use borrow.Author.Tests.{eqb-true}
-use Rattle.laws.proofs.Truth.{dichotomy, not_so, so_not, cond_so, cond_not, and_left, and_right}
-use Rattle.commands.specs.declared.Command.TheVariants.{Make, Line, Unreadable}
-use Rattle.commands.specs.Grammar.{is_byte, is_kind, is_kinds, every, join_first, words}
-use Rattle.commands.specs.Leaves.{ended, level_of, kinds_of, first_word}
+use Rattle.std.proofs.Common.{◌≡◌, ◌∙◌, sym, ap, ℕ, ◌+◌, ◌-◌, ◌≤◌, ◌<◌, Bool, true, false, List, [], ◌∷◌, length, take, take_all, drop, length-drop, arith, ap, refl, subst, inl, inr, ◌⊎◌, add-zero, get_or-drop, ⊎_elim, eqb, cond, eq-eqb, ne_eqb, eqb-true, Option, Some, None, get_or, drop-cons, drop_of_length-le}
+use Rattle.std.proofs.Math.Bool.{So}
+use Rattle.std.specs.List.{list_all}
+use Rattle.std.proofs.lemmas.Grind.{common_steps}
+use Rattle.laws.proofs.Truth.{not_so, so_not, and_left, and_right, dichotomy, cond_not}
+use Rattle.commands.specs.Grammar.{is_byte, join_first, words, is_kind, is_kinds}
+use Rattle.commands.specs.Leaves.{first_word, ended, level_of}
 use Rattle.commands.proofs.Words.{cond_same, words_after, words_first}
 
 -- the level: one byte, the last of the line
 
-pub empty_level : (s : ℕ) → level_of s [] ≡ level_of s ([] ∷ [])
-unfolding level_of is_byte
-empty_level s = refl
-
-pub level_one : (s x : ℕ) → level_of s (words (x ∷ [])) ≡ cond (eqb x 48) (Line s false) (cond (eqb x 49) (Line s true) Unreadable)
+level_one : (x : ℕ) → level_of (words (x ∷ [])) ≡ cond (eqb x 48) (Some false) (cond (eqb x 49) (Some true) None)
 unfolding words join_first level_of is_byte ended
-level_one s x = ⊎_elim
-    (λ t. subst (λ (y : ℕ). level_of s (words (y ∷ [])) ≡ cond (eqb y 48) (Line s false) (cond (eqb y 49) (Line s true) Unreadable)) (sym (eqb-true x 32 t)) refl)
-    (λ t. ap (level_of s) (cond_not ([] ∷ [] ∷ []) ((x ∷ []) ∷ []) t))
+level_one x = ⊎_elim
+    (λ t. subst (λ (y : ℕ). level_of (words (y ∷ [])) ≡ cond (eqb y 48) (Some false) (cond (eqb y 49) (Some true) None)) (sym (eqb-true x 32 t)) refl)
+    (λ t. ap level_of (cond_not ([] ∷ [] ∷ []) ((x ∷ []) ∷ []) t))
     (dichotomy (eqb x 32))
 
-pub level_not_one : (s : ℕ) (l : List ℕ) → length l ≢ 1 → level_of s (words l) ≡ Unreadable
+level_more : (x y : ℕ) (m : List ℕ) → level_of (words (x ∷ y ∷ m)) ≡ None
 unfolding words join_first level_of is_byte ended
-level_not_one s [] h = refl
-level_not_one s (x ∷ []) h = absurd (h refl)
-level_not_one s (x ∷ y ∷ l) h = by_cases (words l) (words_first l) (eqb x 32) (eqb y 32)
+level_more x y m = by_cases (words m) (words_first m) (eqb x 32) (eqb y 32)
   where
-    by_cases : (ws : List (List ℕ)) → ws ≡ first_word l ∷ words_after (drop (length (first_word l)) l) → (t u : Bool) →
-        level_of s (cond t ([] ∷ cond u ([] ∷ ws) (join_first y ws)) (join_first x (cond u ([] ∷ ws) (join_first y ws)))) ≡ Unreadable
-    by_cases [] e t u = let z : ◌≡◌ {A = ℕ} 0 1 = cc in absurd (omega arith)
+    by_cases : (ws : List (List ℕ)) → ws ≡ first_word m ∷ words_after (drop (length (first_word m)) m) → (t u : Bool) →
+        level_of (cond t ([] ∷ cond u ([] ∷ ws) (join_first y ws)) (join_first x (cond u ([] ∷ ws) (join_first y ws)))) ≡ None
+    by_cases [] e t u = cc
     by_cases (w ∷ ws) e true u = refl
-    by_cases (w ∷ ws) e false true =
-        ap (cond (eqb x 48) Unreadable) (cond_same (eqb x 49) Unreadable) ∙ cond_same (eqb x 48) Unreadable
+    by_cases (w ∷ ws) e false true = simp cond_same
     by_cases (w ∷ ws) e false false = refl
+
+level_none : level_of (words []) ≡ None
+unfolding words level_of is_byte
+level_none = refl
+
+-- what a byte says of the level, where it is the last of the line
+abbrev level_in : Bool → ℕ → Option Bool
+level_in last x = cond last (cond (eqb x 48) (Some false) (cond (eqb x 49) (Some true) None)) None
+
+pub level_here : (l : List ℕ) (at : ℕ) → level_of (words (drop at l)) ≡ level_in (eqb (length l) (at + 1)) (get_or l at 0)
+level_here l at = of_rest (drop at l) refl
+  where
+    of_rest : (m : List ℕ) → drop at l ≡ m → level_of (words m) ≡ level_in (eqb (length l) (at + 1)) (get_or l at 0)
+    of_rest [] e = level_none ∙ ap (λ (t : Bool). level_in t (get_or l at 0)) (sym (ne_eqb _ _ (omega (arith, ap length e, length-drop at l))))
+    of_rest (x ∷ []) e =
+        level_one x
+        ∙ (λ i. level_in (sym last i) (byte i))
+      where
+        last : eqb (length l) (at + 1) ≡ true
+        last = eq-eqb _ _ (omega (arith, ap length e, length-drop at l))
+
+        byte : x ≡ get_or l at 0
+        byte = sym (ap (λ (n : ℕ). get_or l n 0) (sym (add-zero at)) ∙ sym (get_or-drop at l 0 0) ∙ ap (λ (m : List ℕ). get_or m 0 0) e)
+    of_rest (x ∷ y ∷ m) e =
+        level_more x y m
+        ∙ ap (λ (t : Bool). level_in t (get_or l at 0)) (sym (ne_eqb _ _ (omega (arith, ap length e, length-drop at l))))
+
+pub ruleset level_steps = (common_steps, level_here)
 
 -- the kinds
 
@@ -59,42 +74,32 @@ one_or_more (b ∷ bs) = by_cases (eqb b 32) (one_or_more bs)
 
 kind_no_space : (b : ℕ) → So (is_kind b) → eqb b 32 ≡ false
 unfolding is_kind
-kind_no_space b h = so_not (eqb b 32) (λ t. not_so refl (subst (λ (x : ℕ). So (is_kind x)) (eqb-true b 32 t) h))
+kind_no_space b h = so_not (eqb b 32) (λ e. not_so refl (subst (λ (x : ℕ). So (is_kind x)) (eqb-true b 32 e) h))
 
--- letters of kinds are one word
-kinds_alone : (l : List ℕ) → So (every is_kind l) → words l ≡ l ∷ []
-unfolding words join_first every
+pub kinds_alone : (l : List ℕ) → So (list_all is_kind l) → words l ≡ l ∷ []
+unfolding words join_first
 kinds_alone [] h = refl
 kinds_alone (b ∷ bs) h =
-    cond_not ([] ∷ words bs) (join_first b (words bs)) (kind_no_space b (and_left (is_kind b) (every is_kind bs) h))
-    ∙ ap (join_first b) (kinds_alone bs (and_right (is_kind b) (every is_kind bs) h))
+    cond_not ([] ∷ words bs) (join_first b (words bs)) (kind_no_space b (and_left (is_kind b) (list_all is_kind bs) h))
+    ∙ ap (join_first b) (kinds_alone bs (and_right (is_kind b) (list_all is_kind bs) h))
 
-pub kinds_every : (l : List ℕ) → So (is_kinds l) → So (every is_kind l)
-unfolding is_kinds every
-kinds_every [] h = absurd (not_so refl h)
-kinds_every (b ∷ bs) h = h
+pub kinds_all : (l : List ℕ) → So (is_kinds l) → So (list_all is_kind l)
+unfolding is_kinds
+kinds_all [] h = absurd (not_so refl h)
+kinds_all (b ∷ bs) h = h
 
 pub kinds_some : (l : List ℕ) → So (is_kinds l) → 0 < length l
 unfolding is_kinds
 kinds_some [] h = absurd (not_so refl h)
 kinds_some (b ∷ bs) h = omega arith
 
-pub empty_kinds : (long n c b : ℕ) → kinds_of long n c b [] ≡ kinds_of long n c b ([] ∷ [])
-unfolding kinds_of is_kinds
-empty_kinds long n c b = refl
+-- kinds, of a byte or more, are letters of kinds and no more is asked
+pub kinds_here : (l : List ℕ) (at : ℕ) → at < length l → is_kinds (drop at l) ≡ list_all is_kind (take (length l - at) (drop at l))
+unfolding is_kinds
+kinds_here l at h =
+    ap is_kinds (drop-cons l at 0 h)
+    ∙ sym (ap (list_all is_kind) (take_all (length l - at) (drop at l) (omega (arith, length-drop at l)) ∙ drop-cons l at 0 h))
 
-module _ (n c b : ℕ) (l : List ℕ) (at : ℕ) where
-  pub kinds_so : So (is_kinds (drop at l)) → kinds_of (length l) n c b (words (drop at l)) ≡ Make n c b at
-  unfolding kinds_of ended
-  kinds_so h =
-      let place : length l - length (drop at l) ≡ at = omega (arith, kinds_some (drop at l) h, length-drop at l) in
-      ap (kinds_of (length l) n c b) (kinds_alone (drop at l) (kinds_every (drop at l) h))
-      ∙ cond_so (Make n c b (length l - length (drop at l))) Unreadable h
-      ∙ ap (Make n c b) place
-
-  pub kinds_not : is_kinds (drop at l) ≡ false → kinds_of (length l) n c b (words (drop at l)) ≡ Unreadable
-  unfolding kinds_of ended
-  kinds_not h = ⊎_elim
-      (λ e. ap (kinds_of (length l) n c b) e ∙ cond_not (Make n c b (length l - length (drop at l))) Unreadable h)
-      (λ e. ap (kinds_of (length l) n c b) e.3 ∙ cond_same (is_kinds e.0) Unreadable)
-      (one_or_more (drop at l))
+pub kinds_none : (l : List ℕ) (at : ℕ) → length l ≤ at → is_kinds (drop at l) ≡ false
+unfolding is_kinds
+kinds_none l at h = ap is_kinds (drop_of_length-le l h)

@@ -1,92 +1,107 @@
 -- The laws of a line's first word: each letter has its form, and any other word has none; and what a line asks for by its letter.
 -- Assumes nothing.
-use mathlib.Core.Path.{◌≡◌, ◌∙◌, refl, sym, ap, subst}
-use mathlib.Core.Bool.{Bool, true, false, cond, ◌&&◌}
-use mathlib.Core.Logic.{⊎_elim}
-use mathlib.Core.List.{List, [], ◌∷◌}
-use Prim.Native.Nat.{ℕ, ◌≤◌, ◌<◌}
-use native.Mathlib.Omega.{arith}
-use lib.Dec.{eqb, ltb}
-use lib.ListN.{length, get_or, drop}
-use borrow.Author.Tests.{ne_eqb, eqb-true, eqb-false, lt-ltb, le-ltb, ltb-true, ltb-false}
+use Rattle.std.proofs.Common.{◌≡◌, ◌∙◌, refl, sym, ap, ℕ, ◌-◌, ◌<◌, Bool, true, false, cond, ◌&&◌, List, [], ◌∷◌, Option, Some, None, option_map, eqb, leb, ltb, length, drop, arith, ne_eqb, leb-true, leb-false, le-leb, lt-ltb, le-ltb}
+use Rattle.std.proofs.Math.Bool.{So}
 use Rattle.limits.specs.Limits.{line_room}
-use Rattle.laws.proofs.Truth.{dichotomy, not_so, cond_so, cond_not, cond_elim}
+use Rattle.laws.proofs.Truth.{not_so, cond_so, cond_not, cond_elim, cond_ap}
 use Rattle.commands.specs.declared.Command.{Command}
-use Rattle.commands.specs.declared.Command.TheVariants.{Line, Advance, Read, Write, Notify, Unreadable}
-use Rattle.commands.specs.Grammar.{is_number, decimal, is_offset, hex, is_byte, join_first, words, of_two, of_three, of_five, of_words, command_of}
-use Rattle.commands.specs.Leaves.{valued, ended, advance_of, notify_of, read_of, write_of, level_of, line_of, kinds_of, make_of, letter_of}
+use Rattle.commands.specs.declared.Opening.{Opening}
+use Rattle.commands.specs.declared.Command.TheVariants.{Make, Line, Advance, Read, Write, Notify, Unreadable}
+use Rattle.commands.specs.Grammar.{is_number, decimal, is_offset, hex, is_byte, is_kinds, join_first, words, of_two, of_three, of_five, of_words, command_of}
+use Rattle.commands.specs.Leaves.{valued, ended, last_word, write_of, level_of, line_of, kinds_of, bits_of, contexts_of, make_of, letter_of, read_as}
 use Rattle.commands.proofs.Words.{cond_same}
+
+-- what a choice of commands reads as
+read_cond : (t : Bool) (k j : Option Command) → read_as (cond t k j) ≡ cond t (read_as k) (read_as j)
+read_cond t k j = cond_ap read_as t k j
 
 -- the words after a letter that takes one
 module _ (x : ℕ) (form : List ℕ → Bool) (value : List ℕ → ℕ) (k : ℕ → Command)
     (two : (a : List ℕ) → of_two (x ∷ []) a ≡ cond (form a) (k (value a)) Unreadable)
     (not-l : eqb x 76 ≡ false) (not-w : eqb x 87 ≡ false) (not-p : eqb x 80 ≡ false) where
-  after_one : (long : ℕ) (ws : List (List ℕ)) → of_words long ((x ∷ []) ∷ ws) ≡ valued form value (λ n. ended (k n)) ws
-  unfolding of_words of_three of_five is_byte valued ended
+  after_one : (long : ℕ) (ws : List (List ℕ)) → of_words long ((x ∷ []) ∷ ws) ≡ read_as (option_map k (last_word form value ws))
+  unfolding of_words of_three of_five is_byte last_word valued ended
   after_one long [] = refl
-  after_one long (a ∷ []) = two a
+  after_one long (a ∷ []) = two a ∙ sym (cond_ap (λ o. read_as (option_map k o)) (form a) (Some (value a)) None)
   after_one long (a ∷ b ∷ []) = simp (not-l, not-w, cond_same)
   after_one long (a ∷ b ∷ c ∷ []) = simp cond_same
   after_one long (a ∷ b ∷ c ∷ d ∷ []) = simp (not-p, cond_same)
   after_one long (a ∷ b ∷ c ∷ d ∷ e ∷ ws) = simp cond_same
 
-pub of_advance : (long : ℕ) (ws : List (List ℕ)) → of_words long ((84 ∷ []) ∷ ws) ≡ advance_of ws
-unfolding advance_of of_two is_byte
+pub of_advance : (long : ℕ) (ws : List (List ℕ)) → of_words long ((84 ∷ []) ∷ ws) ≡ read_as (option_map Advance (last_word is_number decimal ws))
+unfolding of_two is_byte
 of_advance = after_one 84 is_number decimal Advance (λ a. refl) refl refl refl
 
-pub of_read : (long : ℕ) (ws : List (List ℕ)) → of_words long ((82 ∷ []) ∷ ws) ≡ read_of ws
-unfolding read_of of_two is_byte
+pub of_read : (long : ℕ) (ws : List (List ℕ)) → of_words long ((82 ∷ []) ∷ ws) ≡ read_as (option_map Read (last_word is_offset hex ws))
+unfolding of_two is_byte
 of_read = after_one 82 is_offset hex Read (λ a. refl) refl refl refl
 
-pub of_notify : (long : ℕ) (ws : List (List ℕ)) → of_words long ((78 ∷ []) ∷ ws) ≡ notify_of ws
-unfolding notify_of of_two is_byte
+pub of_notify : (long : ℕ) (ws : List (List ℕ)) → of_words long ((78 ∷ []) ∷ ws) ≡ read_as (option_map Notify (last_word is_number decimal ws))
+unfolding of_two is_byte
 of_notify = after_one 78 is_number decimal Notify (λ a. refl) refl refl refl
 
 -- the words after a letter that takes two: what the second asks for where it is the last, and nothing where it is not
-module _ (x : ℕ) (form : List ℕ → Bool) (value : List ℕ → ℕ) (f : ℕ → List (List ℕ) → Command)
-    (three : (a b : List ℕ) → of_three (x ∷ []) a b ≡ cond (form a) (f (value a) (b ∷ [])) Unreadable)
-    (none : (n : ℕ) → f n [] ≡ Unreadable) (more : (n : ℕ) (b c : List ℕ) (ws : List (List ℕ)) → f n (b ∷ c ∷ ws) ≡ Unreadable)
+module _ (x : ℕ) (form : List ℕ → Bool) (value : List ℕ → ℕ) (f : ℕ → List (List ℕ) → Option Command)
+    (three : (a b : List ℕ) → of_three (x ∷ []) a b ≡ cond (form a) (read_as (f (value a) (b ∷ []))) Unreadable)
+    (none : (n : ℕ) → f n [] ≡ None) (more : (n : ℕ) (b c : List ℕ) (ws : List (List ℕ)) → f n (b ∷ c ∷ ws) ≡ None)
     (not_t : eqb x 84 ≡ false) (not-r : eqb x 82 ≡ false) (not-n : eqb x 78 ≡ false) (not-p : eqb x 80 ≡ false) where
-  after_two : (long : ℕ) (ws : List (List ℕ)) → of_words long ((x ∷ []) ∷ ws) ≡ valued form value f ws
+  after_two : (long : ℕ) (ws : List (List ℕ)) → of_words long ((x ∷ []) ∷ ws) ≡ read_as (valued form value f ws)
   unfolding of_words of_two of_five is_byte valued
   after_two long [] = refl
   after_two long (a ∷ []) = simp (not_t, not-r, not-n, none, cond_same)
-  after_two long (a ∷ b ∷ []) = three a b
+  after_two long (a ∷ b ∷ []) = three a b ∙ sym (cond_ap read_as (form a) (f (value a) (b ∷ [])) None)
   after_two long (a ∷ b ∷ c ∷ []) = simp (more, cond_same)
   after_two long (a ∷ b ∷ c ∷ d ∷ []) = simp (not-p, more, cond_same)
   after_two long (a ∷ b ∷ c ∷ d ∷ e ∷ ws) = simp (more, cond_same)
 
 -- one test after another
-both : (t u : Bool) (k : Command) → cond (t && u) k Unreadable ≡ cond t (cond u k Unreadable) Unreadable
-both true u k = refl
+both : (t u : Bool) (k : Command) → cond (t && u) k Unreadable ≡ cond t (read_as (cond u (Some k) None)) Unreadable
+both true u k = sym (cond_ap read_as u (Some k) None)
 both false u k = refl
 
 either : (t u v : Bool) (k j : Command) →
-    cond (t && u) k (cond (t && v) j Unreadable) ≡ cond t (cond u k (cond v j Unreadable)) Unreadable
-either true u v k j = refl
+    cond (t && u) k (cond (t && v) j Unreadable) ≡ cond t (read_as (cond u (Some k) (cond v (Some j) None))) Unreadable
+either true true v k j = refl
+either true false v k j = sym (cond_ap read_as v (Some j) None)
 either false u v k j = refl
 
-pub of_line : (long : ℕ) (ws : List (List ℕ)) → of_words long ((76 ∷ []) ∷ ws) ≡ line_of ws
+pub of_line : (long : ℕ) (ws : List (List ℕ)) → of_words long ((76 ∷ []) ∷ ws) ≡ read_as (line_of ws)
 unfolding line_of level_of of_three is_byte ended
 of_line =
-    after_two 76 is_number decimal level_of
-    (λ a b. either (is_number a) (is_byte 48 b) (is_byte 49 b) (Line (decimal a) false) (Line (decimal a) true))
+    after_two 76 is_number decimal (λ s ws. option_map (Line s) (level_of ws))
+    (λ a b. either (is_number a) (is_byte 48 b) (is_byte 49 b) (Line (decimal a) false) (Line (decimal a) true)
+    ∙ sym (ap (λ o. cond (is_number a) (read_as o) Unreadable) (mapped (decimal a) (is_byte 48 b) (is_byte 49 b))))
     (λ n. refl) (λ n b c ws. simp cond_same) refl refl refl refl
+  where
+    mapped : (s : ℕ) (t u : Bool) →
+        option_map (Line s) (cond t (Some false) (cond u (Some true) None)) ≡ cond t (Some (Line s false)) (cond u (Some (Line s true)) None)
+    mapped s true u = refl
+    mapped s false true = refl
+    mapped s false false = refl
 
-pub of_write : (long : ℕ) (ws : List (List ℕ)) → of_words long ((87 ∷ []) ∷ ws) ≡ write_of ws
-unfolding write_of valued of_three is_byte ended
+pub of_write : (long : ℕ) (ws : List (List ℕ)) → of_words long ((87 ∷ []) ∷ ws) ≡ read_as (write_of ws)
+unfolding write_of last_word valued of_three is_byte ended
 of_write =
-    after_two 87 is_offset hex (λ off. valued is_number decimal (λ n. ended (Write off n)))
-    (λ a b. both (is_offset a) (is_number b) (Write (hex a) (decimal b)))
+    after_two 87 is_offset hex (λ off ws. option_map (Write off) (last_word is_number decimal ws))
+    (λ a b. both (is_offset a) (is_number b) (Write (hex a) (decimal b))
+    ∙ ap (λ o. cond (is_offset a) (read_as o) Unreadable) (sym (cond_ap (option_map (Write (hex a))) (is_number b) (Some (decimal b)) None)))
     (λ n. refl) (λ n b c ws. simp cond_same) refl refl refl refl
 
-pub of_make : (long : ℕ) (ws : List (List ℕ)) → of_words long ((80 ∷ []) ∷ ws) ≡ make_of long ws
-unfolding make_of kinds_of valued of_words of_two of_three of_five is_byte ended
+pub of_make : (long : ℕ) (ws : List (List ℕ)) → of_words long ((80 ∷ []) ∷ ws) ≡ read_as (option_map Make (make_of long ws))
+unfolding make_of contexts_of bits_of kinds_of valued of_words of_two of_three of_five is_byte ended
 of_make long [] = refl
 of_make long (n ∷ []) = simp cond_same
 of_make long (n ∷ c ∷ []) = simp cond_same
 of_make long (n ∷ c ∷ b ∷ []) = simp cond_same
-of_make long (n ∷ c ∷ b ∷ k ∷ []) = simp both
+of_make long (n ∷ c ∷ b ∷ k ∷ []) = five (is_number n) (is_number c) (is_number b) (is_kinds k)
+  where
+    five : (t u v w : Bool) → cond (t && u && v && w) (Make (record { sources = decimal n; contexts = decimal c; bits = decimal b; kinds = long - length k })) Unreadable
+        ≡ read_as (option_map Make (cond t (cond u (cond v (cond w (Some (record { sources = decimal n; contexts = decimal c; bits = decimal b; kinds = long - length k })) None) None) None) None))
+    five true true true true = refl
+    five true true true false = refl
+    five true true false w = refl
+    five true false v w = refl
+    five false u v w = refl
 of_make long (n ∷ c ∷ b ∷ k ∷ e ∷ ws) = simp cond_same
 
 -- a first word that is no letter of a form
@@ -110,114 +125,98 @@ long_first : (long x y : ℕ) (w : List ℕ) (ws : List (List ℕ)) → of_words
 unfolding is_byte
 long_first long x y w ws = no_letter (x ∷ y ∷ w) refl refl refl refl refl refl long ws
 
--- what a line asks for by its first two bytes
+-- what a line asks for by its letter: nothing without one, nor by a space
+unfoldable pub asked : List ℕ → Option ℕ → Command
+asked l None = Unreadable
+asked l (Some x) = cond (eqb x 32) Unreadable (of_words (length l) ((x ∷ []) ∷ words (drop 2 l)))
 
-two_bytes : (l : List ℕ) → 2 ≤ length l → l ≡ get_or l 0 0 ∷ get_or l 1 0 ∷ drop 2 l
-two_bytes [] h = absurd (omega arith)
-two_bytes (x ∷ []) h = absurd (omega arith)
-two_bytes (x ∷ y ∷ l) h = refl
+-- the first two bytes tell: a space; or a letter, and a space or another byte
+two_first : (long x y : ℕ) (l : List ℕ) →
+    of_words long (words (x ∷ y ∷ l)) ≡ cond (eqb y 32) (cond (eqb x 32) Unreadable (of_words long ((x ∷ []) ∷ words l))) Unreadable
+unfolding words join_first
+two_first long x y l = by_cases (eqb x 32) (eqb y 32) (words l)
+  where
+    by_cases : (t u : Bool) (ws : List (List ℕ)) → of_words long (cond t ([] ∷ cond u ([] ∷ ws) (join_first y ws)) (join_first x (cond u ([] ∷ ws) (join_first y ws))))
+        ≡ cond u (cond t Unreadable (of_words long ((x ∷ []) ∷ ws))) Unreadable
+    by_cases true u ws = empty_first long (cond u ([] ∷ ws) (join_first y ws)) ∙ sym (cond_same u Unreadable)
+    by_cases false true ws = refl
+    by_cases false false [] = long_first long x y [] []
+    by_cases false false (w ∷ ws) = long_first long x y w ws
 
-command_long : (l : List ℕ) → line_room < length l → command_of l ≡ Unreadable
-unfolding command_of
-command_long l h = cond_so _ _ (lt-ltb _ _ h)
-
-command_of_words : (l : List ℕ) → length l ≤ line_room → command_of l ≡ of_words (length l) (words l)
-unfolding command_of
-command_of_words l h = cond_not _ _ (le-ltb _ _ h)
-
-command_short : (l : List ℕ) → length l < 2 → command_of l ≡ Unreadable
+few_first : (long : ℕ) (l : List ℕ) → length l < 2 → of_words long (words l) ≡ Unreadable
 unfolding of_words words join_first
-command_short [] h = command_of_words [] (omega arith)
-command_short (x ∷ []) h =
-    command_of_words (x ∷ []) (omega arith)
-    ∙ cond_elim (λ (ws : List (List ℕ)). of_words 1 ws ≡ Unreadable) (eqb x 32) (λ _. empty_first 1 ([] ∷ [])) (λ _. refl)
-command_short (x ∷ y ∷ l) h = absurd (omega arith)
+few_first long [] h = refl
+few_first long (x ∷ []) h = cond_elim (λ (ws : List (List ℕ)). of_words long ws ≡ Unreadable) (eqb x 32) (λ _. empty_first long ([] ∷ [])) (λ _. refl)
+few_first long (x ∷ y ∷ l) h = absurd (omega arith)
 
-module _ (l : List ℕ) (short : length l ≤ line_room) (enough : 2 ≤ length l) where
-  command_at : command_of l ≡ of_words (length l) (words (get_or l 0 0 ∷ get_or l 1 0 ∷ drop 2 l))
-  command_at = command_of_words l short ∙ ap (λ (m : List ℕ). of_words (length l) (words m)) (two_bytes l enough)
+pub command_is : (l : List ℕ) → command_of l ≡ asked l (letter_of l)
+unfolding command_of letter_of asked
+command_is [] = few_first 0 [] (omega arith)
+command_is (x ∷ []) = few_first 1 (x ∷ []) (omega arith)
+command_is (x ∷ y ∷ l) = by_cases (leb (length m) line_room) refl
+  where
+    m : List ℕ
+    m = x ∷ y ∷ l
 
-  command_unspaced : (get_or l 1 0 ≡ 32 → ⊥) → command_of l ≡ Unreadable
-  unfolding words join_first
-  command_unspaced h =
-      command_at ∙ by_cases (get_or l 0 0) (get_or l 1 0) (eqb (get_or l 0 0) 32) (eqb (get_or l 1 0) 32) (ne_eqb _ _ h) (words (drop 2 l))
-    where
-      by_cases : (x y : ℕ) (t u : Bool) → u ≡ false → (ws : List (List ℕ)) →
-          of_words (length l) (cond t ([] ∷ cond u ([] ∷ ws) (join_first y ws)) (join_first x (cond u ([] ∷ ws) (join_first y ws)))) ≡ Unreadable
-      by_cases x y true u e ws = empty_first (length l) (cond u ([] ∷ ws) (join_first y ws))
-      by_cases x y false true e ws = absurd (not_so e refl)
-      by_cases x y false false e [] = long_first (length l) x y [] []
-      by_cases x y false false e (w ∷ ws) = long_first (length l) x y w ws
+    spaced : (t u : Bool) → So t →
+        cond u (cond (eqb x 32) Unreadable (of_words (length m) ((x ∷ []) ∷ words l))) Unreadable ≡ asked m (cond (true && t && u) (Some x) None)
+    spaced true true h = refl
+    spaced true false h = refl
+    spaced false u h = absurd (not_so refl h)
 
-  module _ (spaced : get_or l 1 0 ≡ 32) where
-    letter_at : eqb (get_or l 0 0) 32 ≡ false → command_of l ≡ of_words (length l) ((get_or l 0 0 ∷ []) ∷ words (drop 2 l))
-    unfolding words join_first
-    letter_at h =
-        command_at
-        ∙ ap (λ (y : ℕ). of_words (length l) (words (get_or l 0 0 ∷ y ∷ drop 2 l))) spaced
-        ∙ ap (of_words (length l)) (cond_not ([] ∷ [] ∷ words (drop 2 l)) ((get_or l 0 0 ∷ []) ∷ words (drop 2 l)) h)
-
-    -- a letter that is no space has its form
-    command_letter : (x : ℕ) (f : ℕ → List (List ℕ) → Command) →
-        ((long : ℕ) (ws : List (List ℕ)) → of_words long ((x ∷ []) ∷ ws) ≡ f long ws) → eqb x 32 ≡ false →
-        get_or l 0 0 ≡ x → command_of l ≡ f (length l) (words (drop 2 l))
-    command_letter x f form h e =
-        letter_at (ap (λ (y : ℕ). eqb y 32) e ∙ h)
-        ∙ ap (λ (y : ℕ). of_words (length l) ((y ∷ []) ∷ words (drop 2 l))) e
-        ∙ form (length l) (words (drop 2 l))
-
-    -- what holds of Unreadable and of the first byte's form holds of the line's command
-    command_form : (P : Command → Type 0) → P Unreadable → P (of_words (length l) ((get_or l 0 0 ∷ []) ∷ words (drop 2 l))) → P (command_of l)
-    unfolding words join_first
-    command_form P none form = ⊎_elim
-        (λ s.
-        subst P
-        (sym (command_at
-        ∙ ap (of_words (length l)) (cond_so ([] ∷ words (get_or l 1 0 ∷ drop 2 l)) (join_first (get_or l 0 0) (words (get_or l 1 0 ∷ drop 2 l))) s)
-        ∙ empty_first (length l) (words (get_or l 1 0 ∷ drop 2 l))))
-        none)
-        (λ s. subst P (sym (letter_at s)) form)
-        (dichotomy (eqb (get_or l 0 0) 32))
-
--- what holds of 0, where the line is unreadable, and of the first byte, where it is the line's letter, holds of the letter
-letter_cases : (l : List ℕ) (P : ℕ → Type 0) → (command_of l ≡ Unreadable → P 0) →
-    (length l ≤ line_room → 2 ≤ length l → get_or l 1 0 ≡ 32 → P (get_or l 0 0)) → P (letter_of l)
-unfolding letter_of
-letter_cases l P none some =
-    cond_elim P (ltb line_room (length l)) (λ long. none (command_long l (ltb-true _ _ long)))
-    (λ short. cond_elim P (ltb (length l) 2) (λ few. none (command_short l (ltb-true _ _ few)))
-    (λ enough. cond_elim P (eqb (get_or l 1 0) 32) (λ spaced. some (ltb-false _ _ short) (ltb-false _ _ enough) (eqb-true _ _ spaced))
-    (λ unspaced. none (command_unspaced l (ltb-false _ _ short) (ltb-false _ _ enough) (eqb-false _ _ unspaced)))))
+    by_cases : (t : Bool) → leb (length m) line_room ≡ t →
+        cond (ltb line_room (length m)) Unreadable (of_words (length m) (words m)) ≡ asked m (cond (t && leb 2 (length m) && eqb y 32) (Some x) None)
+    by_cases true h =
+        cond_not _ _ (le-ltb line_room (length m) (leb-true (length m) line_room h))
+        ∙ two_first (length m) x y l
+        ∙ spaced (leb 2 (length m)) (eqb y 32) (le-leb 2 (length m) (omega arith))
+    by_cases false h = cond_so _ _ (lt-ltb line_room (length m) (leb-false (length m) line_room h))
 
 -- none of the six letters
 abbrev pub Unlettered : ℕ → Type 0
 Unlettered x = (x ≡ 76 → ⊥) × (x ≡ 84 → ⊥) × (x ≡ 82 → ⊥) × (x ≡ 87 → ⊥) × (x ≡ 78 → ⊥) × (x ≡ 80 → ⊥)
 
+-- a line's command by its letter: none, ..
 module _ (l : List ℕ) where
-  -- a line whose letter is no 0 has two bytes
-  pub letter_long : (x : ℕ) → eqb x 0 ≡ false → letter_of l ≡ x → 2 ≤ length l
-  letter_long x h = letter_cases l (λ (y : ℕ). y ≡ x → 2 ≤ length l) (λ _ e. absurd (eqb-false _ _ h (sym e))) (λ _ enough _ _. enough)
+  pub none_told : None ≡ letter_of l → Unreadable ≡ command_of l
+  unfolding asked
+  none_told e = sym (command_is l ∙ ap (asked l) (sym e))
 
-  -- a letter that is neither 0 nor a space has its form
-  pub by_letter : (x : ℕ) (f : ℕ → List (List ℕ) → Command) →
-      ((long : ℕ) (ws : List (List ℕ)) → of_words long ((x ∷ []) ∷ ws) ≡ f long ws) → eqb x 0 ≡ false → eqb x 32 ≡ false →
-      letter_of l ≡ x → command_of l ≡ f (length l) (words (drop 2 l))
-  by_letter x f form h k =
-      letter_cases l (λ (y : ℕ). y ≡ x → command_of l ≡ f (length l) (words (drop 2 l)))
-      (λ _ e. absurd (eqb-false _ _ h (sym e)))
-      (λ short enough spaced. command_letter l short enough spaced x f form k)
+  -- .. any but the six, ..
+  told : {x : ℕ} (y : ℕ) → Some x ≡ letter_of l → x ≡ y → asked l (Some y) ≡ command_of l
+  told y e is = sym (command_is l ∙ ap (asked l) (sym e ∙ ap Some is))
 
-  -- what holds of Unreadable and of the forms of each letter x with R x holds of the command of a line whose letter is one
-  pub letter_form : (P : Command → Type 0) (R : ℕ → Type 0) → P Unreadable →
-      ((x long : ℕ) (ws : List (List ℕ)) → R x → P (of_words long ((x ∷ []) ∷ ws))) → R (letter_of l) → P (command_of l)
-  letter_form P R none form =
-      letter_cases l (λ (y : ℕ). R y → P (command_of l)) (λ e _. subst P (sym e) none)
-      (λ short enough spaced r. command_form l short enough spaced P none (form (get_or l 0 0) (length l) (words (drop 2 l)) r))
+  pub other_told : {x : ℕ} → Some x ≡ letter_of l → Unlettered x → Unreadable ≡ command_of l
+  unfolding asked is_byte
+  other_told {x} e r =
+      sym (ap (cond (eqb x 32) Unreadable)
+      (no_letter (x ∷ []) (ne_eqb _ _ r.1) (ne_eqb _ _ r.2) (ne_eqb _ _ r.4) (ne_eqb _ _ r.0) (ne_eqb _ _ r.3) (ne_eqb _ _ r.5)
+      (length l) (words (drop 2 l)))
+      ∙ cond_same (eqb x 32) Unreadable)
+      ∙ told x e refl
 
-  -- any other letter has no form
-  pub unlettered : Unlettered (letter_of l) → command_of l ≡ Unreadable
-  unfolding is_byte
-  unlettered =
-      letter_form (λ (k : Command). k ≡ Unreadable) Unlettered refl
-      (λ x long ws r.
-      no_letter (x ∷ []) (ne_eqb _ _ r.1) (ne_eqb _ _ r.2) (ne_eqb _ _ r.4) (ne_eqb _ _ r.0) (ne_eqb _ _ r.3) (ne_eqb _ _ r.5) long ws)
+  -- .. and each of these, with what its form asks for
+  module _ {x : ℕ} (e : Some x ≡ letter_of l) where
+    pub line_told : x ≡ 76 → (k : Option Command) → k ≡ line_of (words (drop 2 l)) → read_as k ≡ command_of l
+    unfolding asked
+    line_told is k h = ap read_as h ∙ sym (of_line (length l) (words (drop 2 l))) ∙ told 76 e is
+
+    pub advance_told : x ≡ 84 → (v : Option ℕ) → v ≡ last_word is_number decimal (words (drop 2 l)) → read_as (option_map Advance v) ≡ command_of l
+    unfolding asked
+    advance_told is v h = ap (λ o. read_as (option_map Advance o)) h ∙ sym (of_advance (length l) (words (drop 2 l))) ∙ told 84 e is
+
+    pub read_told : x ≡ 82 → (v : Option ℕ) → v ≡ last_word is_offset hex (words (drop 2 l)) → read_as (option_map Read v) ≡ command_of l
+    unfolding asked
+    read_told is v h = ap (λ o. read_as (option_map Read o)) h ∙ sym (of_read (length l) (words (drop 2 l))) ∙ told 82 e is
+
+    pub write_told : x ≡ 87 → (k : Option Command) → k ≡ write_of (words (drop 2 l)) → read_as k ≡ command_of l
+    unfolding asked
+    write_told is k h = ap read_as h ∙ sym (of_write (length l) (words (drop 2 l))) ∙ told 87 e is
+
+    pub notify_told : x ≡ 78 → (v : Option ℕ) → v ≡ last_word is_number decimal (words (drop 2 l)) → read_as (option_map Notify v) ≡ command_of l
+    unfolding asked
+    notify_told is v h = ap (λ o. read_as (option_map Notify o)) h ∙ sym (of_notify (length l) (words (drop 2 l))) ∙ told 78 e is
+
+    pub make_told : x ≡ 80 → (o : Option Opening) → o ≡ make_of (length l) (words (drop 2 l)) → read_as (option_map Make o) ≡ command_of l
+    unfolding asked
+    make_told is o h = ap (λ p. read_as (option_map Make p)) h ∙ sym (of_make (length l) (words (drop 2 l))) ∙ told 80 e is

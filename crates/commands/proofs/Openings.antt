@@ -1,22 +1,18 @@
--- The laws of a script's first line: of the forms only that of the letter P opens a script.
+-- What a script's first line asks for: by the letter P a board, and by any other nothing.
 -- Assumes nothing.
-use mathlib.Core.Path.{◌≡◌, refl, ap}
-use mathlib.Core.Bool.{false}
-use mathlib.Core.List.{List, [], ◌∷◌}
-use Prim.Native.Nat.{ℕ}
-use lib.ListN.{length, drop}
-use borrow.Author.Tests.{ne_eqb}
+use Rattle.std.proofs.Common.{◌≡◌, ◌∙◌, refl, sym, ap, ℕ, false, cond, List, [], ◌∷◌, Option, Some, None, option_map, eqb, length, drop, ne_eqb}
+use Rattle.std.proofs.lemmas.Option.{same_Some}
 use Rattle.laws.proofs.Truth.{cond_ap}
-use Rattle.commands.specs.declared.Command.{Command}
-use Rattle.commands.specs.declared.Opening.TheVariants.{Unreadable}
+use Rattle.commands.specs.declared.Command.TheVariants.{Make}
+use Rattle.commands.specs.declared.Opening.{Opening}
 use Rattle.commands.specs.Grammar.{is_byte, words, of_two, of_three, of_five, of_words, command_of, opening_of}
-use Rattle.commands.specs.Leaves.{make_of, letter_of}
+use Rattle.commands.specs.Leaves.{make_of, letter_of, read_as}
 use Rattle.commands.proofs.Words.{cond_same}
-use Rattle.commands.proofs.Letters.{of_make, by_letter, letter_form}
+use Rattle.commands.proofs.Letters.{asked, command_is, make_told}
 
 -- the form of a first word that is not P opens nothing
 module _ (w : List ℕ) (not-p : is_byte 80 w ≡ false) where
-  others_open_not : (long : ℕ) (ws : List (List ℕ)) → opening_of (of_words long (w ∷ ws)) ≡ Unreadable
+  others_open_not : (long : ℕ) (ws : List (List ℕ)) → opening_of (of_words long (w ∷ ws)) ≡ None
   unfolding opening_of of_words of_two of_three of_five
   others_open_not long [] = refl
   others_open_not long (a ∷ []) = simp (cond_ap opening_of, cond_same)
@@ -25,13 +21,28 @@ module _ (w : List ℕ) (not-p : is_byte 80 w ≡ false) where
   others_open_not long (a ∷ b ∷ c ∷ d ∷ []) = simp not-p
   others_open_not long (a ∷ b ∷ c ∷ d ∷ e ∷ ws) = refl
 
--- what a first line asks for by its letter
-module _ (l : List ℕ) where
-  pub opening_make : letter_of l ≡ 80 → opening_of (command_of l) ≡ opening_of (make_of (length l) (words (drop 2 l)))
-  opening_make e = ap opening_of (by_letter l 80 make_of of_make refl refl e)
+-- a board that is made is opened
+opened : (o : Option Opening) → opening_of (read_as (option_map Make o)) ≡ o
+unfolding opening_of
+opened (Some o) = refl
+opened None = refl
 
-  pub opening_other : (letter_of l ≡ 80 → ⊥) → opening_of (command_of l) ≡ Unreadable
-  unfolding opening_of is_byte
-  opening_other =
-      letter_form l (λ (k : Command). opening_of k ≡ Unreadable) (λ (x : ℕ). x ≡ 80 → ⊥) refl
-      (λ x long ws h. others_open_not (x ∷ []) (ne_eqb _ _ h) long ws)
+module _ (l : List ℕ) where
+  pub opening_make : {x : ℕ} → Some x ≡ letter_of l → x ≡ 80 → opening_of (command_of l) ≡ make_of (length l) (words (drop 2 l))
+  opening_make e is =
+      let board = make_of (length l) (words (drop 2 l)) in
+      ap opening_of (sym (make_told l e is board refl)) ∙ opened board
+
+  pub opening_other : (letter_of l ≡ Some 80 → ⊥) → opening_of (command_of l) ≡ None
+  unfolding asked opening_of is_byte
+  opening_other h = ap opening_of (command_is l) ∙ by_letter (letter_of l) h
+    where
+      by_letter : (o : Option ℕ) → (o ≡ Some 80 → ⊥) → opening_of (asked l o) ≡ None
+      by_letter None h = refl
+      by_letter (Some x) h =
+          cond_ap opening_of (eqb x 32) _ _
+          ∙ ap (cond (eqb x 32) None) (others_open_not (x ∷ []) (ne_eqb _ _ (λ e. h (ap Some e))) (length l) (words (drop 2 l)))
+          ∙ cond_same (eqb x 32) None
+
+  pub opening_not : {x : ℕ} → Some x ≡ letter_of l → (x ≡ 80 → ⊥) → None ≡ opening_of (command_of l)
+  opening_not {x} e h = sym (opening_other (λ p. h (same_Some x 80 (e ∙ p))))

@@ -1,24 +1,13 @@
 -- The laws of words: a line is its first word and the words after it, and what a place of the line says of them.
 -- Assumes nothing.
-use mathlib.Core.Path.{◌≡◌, ◌∙◌, refl, sym, ap}
-use mathlib.Core.Bool.{Bool, true, false, cond}
-use mathlib.Core.Logic.{⊎_elim}
-use mathlib.Core.List.{List, [], ◌∷◌}
-use Prim.Native.Nat.{ℕ, suc, ◌+◌, ◌≤◌, ◌<◌}
-use native.Mathlib.Nat.{le_refl}
-use native.Mathlib.Numerals.{add-one}
-use native.Mathlib.Omega.{arith}
-use lib.Dec.{eqb, leb}
-use lib.ListN.{length, drop, drop_of_length-le, length-drop}
-use lib.Seq.{drop-cons, drop-drop}
-use borrow.Author.Tests.{leb-true, leb-false, ltb-true, ltb-false}
-use Rattle.laws.proofs.Truth.{dichotomy, cond_not}
-use Rattle.commands.specs.declared.Command.{Command}
-use Rattle.commands.specs.declared.Command.TheVariants.{Unreadable}
-use Rattle.commands.specs.declared.scan.Value.{Value}
-use Rattle.commands.specs.declared.scan.Value.TheVariants.{Is, Nothing}
-use Rattle.commands.specs.Grammar.{join_first, words, is_number, no_needless_zero, is_offset}
-use Rattle.commands.specs.Leaves.{first_word, value_of, valued, ended}
+use Rattle.std.proofs.Common.{◌≡◌, ◌∙◌, refl, sym, ap, ℕ, suc, ◌+◌, ◌≤◌, ◌<◌, Bool, true, false, cond, List, [], ◌∷◌, Option, Some, None, eqb, length, drop, drop-cons, drop-drop, drop_of_length-le, add-one, ⊎_elim, arith, le_refl, eq-eqb, ne_eqb}
+use Rattle.std.proofs.lemmas.Grind.{common_steps}
+use Rattle.std.proofs.lemmas.Option.{cond_some}
+use Rattle.std.proofs.lemmas.Bool.{cases_lt}
+use Rattle.laws.proofs.Truth.{cond_so, cond_not}
+use Rattle.commands.specs.declared.scan.Word.{Word}
+use Rattle.commands.specs.Grammar.{join_first, words}
+use Rattle.commands.specs.Leaves.{first_word, value_of, valued, ended, last_word, last_value}
 
 -- a choice that makes no difference
 pub cond_same {ℓ} : {A : Type ℓ} (t : Bool) (x : A) → cond t x x ≡ x
@@ -42,7 +31,7 @@ words_first (b ∷ bs) = by_cases (eqb b 32) (words_first bs)
     by_cases true e = refl
     by_cases false e = ap (join_first b) e
 
-first_length : (l : List ℕ) → length (first_word l) ≤ length l
+pub first_length : (l : List ℕ) → length (first_word l) ≤ length l
 unfolding first_word
 first_length [] = le_refl 0
 first_length (b ∷ bs) = by_cases (eqb b 32) (first_length bs)
@@ -58,122 +47,62 @@ words_at l at =
     words_first (drop at l)
     ∙ ap (λ (m : List ℕ). first_word (drop at l) ∷ words_after m) (drop-drop (length (first_word (drop at l))) at l)
 
--- the choice that a form makes, by what was found
-found : (t : Bool) (x y v e : ℕ) (f : ℕ → ℕ → Command) → cond t (Is x y) Nothing ≡ Is v e → cond t (f x y) Unreadable ≡ f v e
-found true x y v e f h = cc
-found false x y v e f h = let z : ◌≡◌ {A = ℕ} 0 1 = cc in absurd (omega arith)
-
-missing : (t : Bool) (x y : ℕ) (k : Command) → cond t (Is x y) Nothing ≡ Nothing → cond t k Unreadable ≡ Unreadable
-missing true x y k h = let z : ◌≡◌ {A = ℕ} 0 1 = cc in absurd (omega arith)
-missing false x y k h = refl
-
-module _ (form : List ℕ → Bool) (value : List ℕ → ℕ) (f : ℕ → List (List ℕ) → Command) (l : List ℕ) (at : ℕ) where
-  -- where the word at a place is of the form, what is asked for is what its value and the words after it ask for
-  value_found : {v e : ℕ} → value_of form value (drop at l) at ≡ Is v e →
-      valued form value f (words (drop at l)) ≡ f v (words_after (drop e l))
-  unfolding value_of valued
-  value_found {v} {e} h =
-      ap (valued form value f) (words_at l at)
-      ∙ found (form (first_word (drop at l))) (value (first_word (drop at l))) (at + length (first_word (drop at l))) v e
-      (λ x y. f x (words_after (drop y l))) h
-
-  value_missing : value_of form value (drop at l) at ≡ Nothing → valued form value f (words (drop at l)) ≡ Unreadable
-  unfolding value_of valued
-  value_missing h =
-      ap (valued form value f) (words_at l at)
-      ∙ missing (form (first_word (drop at l))) (value (first_word (drop at l))) (at + length (first_word (drop at l))) _ h
-
--- a word of a form that no empty word has ends within the line
-module _ (form : List ℕ → Bool) (empty : form [] ≡ false) (l : List ℕ) (v e : ℕ) where
-  ends_within : (t : Bool) (x y : ℕ) → y ≤ length l → cond t (Is x y) Nothing ≡ Is v e → e ≤ length l
-  ends_within true x y k h = let same : y ≡ e = cc in omega arith
-  ends_within false x y k h = let z : ◌≡◌ {A = ℕ} 0 1 = cc in absurd (omega arith)
-
-  not_empty : (x y : ℕ) (m : List ℕ) → m ≡ [] → cond (form (first_word m)) (Is x y) Nothing ≡ Is v e → ⊥
-  unfolding first_word
-  not_empty x y m p h =
-      let q : cond (form (first_word m)) (Is x y) Nothing ≡ Nothing =
-      ap (λ (k : List ℕ). cond (form (first_word k)) (Is x y) Nothing) p ∙ cond_not _ _ empty in
-      let z : ◌≡◌ {A = ℕ} 0 1 = cc in omega arith
-
-  value_within : (value : List ℕ → ℕ) (at : ℕ) → value_of form value (drop at l) at ≡ Is v e → e ≤ length l
-  unfolding value_of
-  value_within value at h = ⊎_elim
-      (λ t. ends_within (form (first_word (drop at l))) _ _
-      (omega (arith, leb-true at (length l) t, first_length (drop at l), length-drop at l)) h)
-      (λ t. let k : length l ≤ at = omega (arith, leb-false at (length l) t) in
-      absurd (not_empty _ _ (drop at l) (drop_of_length-le l k) h))
-      (dichotomy (leb at (length l)))
-
 -- the words after a place are those from the next place on, for what asks as little of no word as of an empty one
-next_words : (g : List (List ℕ) → Command) (l : List ℕ) (e : ℕ) → g [] ≡ g ([] ∷ []) →
+next_words : {A : Type 0} (g : List (List ℕ) → Option A) (l : List ℕ) (e : ℕ) → g [] ≡ g ([] ∷ []) →
     g (words_after (drop e l)) ≡ g (words (drop (e + 1) l))
 unfolding words_after words
 next_words g l e h = ⊎_elim
-    (λ t. let k : e < length l = ltb-true e (length l) t in
+    (λ (k : e < length l).
     ap (λ (m : List ℕ). g (words_after m)) (drop-cons l e 0 k) ∙ ap (λ (n : ℕ). g (words (drop n l))) (sym (add-one e)))
-    (λ t. let k : length l ≤ e = ltb-false e (length l) t in
+    (λ (k : length l ≤ e).
     ap (λ (m : List ℕ). g (words_after m)) (drop_of_length-le l k)
     ∙ h
     ∙ sym (ap (λ (m : List ℕ). g (words m)) (drop_of_length-le l {i = e + 1} (omega arith))))
-    (dichotomy (leb (suc e) (length l)))
+    (cases_lt e (length l))
 
--- a command that asks for no further word stands at the end of the line alone
-last_word : (k : Command) (l : List ℕ) (e : ℕ) → e ≡ length l → ended k (words_after (drop e l)) ≡ k
-unfolding ended words_after
-last_word k l e h = ap (λ (m : List ℕ). ended k (words_after m)) (drop_of_length-le l {i = e} (omega arith))
+-- the word at a place is looked for: what the words from there on ask for, where it is not of the form ..
+module _ (form : List ℕ → Bool) (value : List ℕ → ℕ) (l : List ℕ) (at : ℕ) where
+  pub value_none : {A : Type 0} (f : ℕ → List (List ℕ) → Option A) → None ≡ value_of form value (drop at l) at →
+      valued form value f (words (drop at l)) ≡ None
+  unfolding value_of valued
+  value_none {A} f h =
+      ap (valued form value f) (words_at l at) ∙ none (form (first_word (drop at l))) _ _ h
+    where
+      none : (t : Bool) (w : Word) (k : Option A) → None ≡ cond t (Some w) None → cond t k None ≡ None
+      none true w k e = cc
+      none false w k e = refl
 
-not_last_word : (k : Command) (l : List ℕ) (e : ℕ) → e < length l → ended k (words_after (drop e l)) ≡ Unreadable
-unfolding ended words_after
-not_last_word k l e h =
-    ap (λ (m : List ℕ). ended k (words_after m)) (drop-cons l e 0 h) ∙ ap (ended k) (words_first (drop (suc e) l))
+  pub last_none : None ≡ value_of form value (drop at l) at → last_word form value (words (drop at l)) ≡ None
+  unfolding last_word
+  last_none = value_none ended
 
--- no word and an empty word ask for as little
+  -- .. and where it is
+  module _ {w : Word} (h : Some w ≡ value_of form value (drop at l) at) where
+    value_some : {A : Type 0} (f : ℕ → List (List ℕ) → Option A) →
+        valued form value f (words (drop at l)) ≡ f w.value (words_after (drop w.end l))
+    unfolding value_of valued
+    value_some f =
+        let is = cond_some _ _ w (sym h) in
+        ap (valued form value f) (words_at l at)
+        ∙ cond_so _ _ is.0
+        ∙ ap (λ (x : Word). f x.value (words_after (drop x.end l))) is.1
 
-pub empty_number : is_number [] ≡ false
-unfolding is_number no_needless_zero
-empty_number = refl
+    -- others are to follow
+    pub value_next : {A : Type 0} (f : ℕ → List (List ℕ) → Option A) → f w.value [] ≡ f w.value ([] ∷ []) →
+        valued form value f (words (drop at l)) ≡ f w.value (words (drop (w.end + 1) l))
+    value_next f e = value_some f ∙ next_words (f w.value) l w.end e
 
-pub empty_offset : is_offset [] ≡ false
-unfolding is_offset
-empty_offset = refl
+    -- it is to be the last
+    pub value_last : w.end ≤ length l → last_word form value (words (drop at l)) ≡ last_value w (length l)
+    unfolding last_word last_value ended words_after
+    value_last k = value_some ended ∙ ⊎_elim
+        (λ (more : w.end < length l).
+        ap (λ (m : List ℕ). ended w.value (words_after m)) (drop-cons l w.end 0 more)
+        ∙ ap (ended w.value) (words_first (drop (suc w.end) l))
+        ∙ sym (cond_not (Some w.value) None (ne_eqb w.end (length l) (omega arith))))
+        (λ (last : length l ≤ w.end).
+        ap (λ (m : List ℕ). ended w.value (words_after m)) (drop_of_length-le l last)
+        ∙ sym (cond_so (Some w.value) None (eq-eqb w.end (length l) (omega arith))))
+        (cases_lt w.end (length l))
 
-pub empty_valued : (form : List ℕ → Bool) (value : List ℕ → ℕ) (f : ℕ → List (List ℕ) → Command) → form [] ≡ false →
-    valued form value f [] ≡ valued form value f ([] ∷ [])
-unfolding valued
-empty_valued form value f empty = sym (cond_not _ _ empty)
-
--- what a line asks for by the word at a place: `here` is what is found there, where a word of a form is looked for
-
--- of a word that is to be the last: nothing is found; it is the last; or it is not
-pub record Only (k : ℕ → Command) (l : List ℕ) (here : Value) (asks : Command) : Type 0 where
-  pub missing : here ≡ Nothing → Unreadable ≡ asks
-  pub last : {v e : ℕ} → here ≡ Is v e → e ≡ length l → k v ≡ asks
-  pub not_last : {v e : ℕ} → here ≡ Is v e → (e ≡ length l → ⊥) → Unreadable ≡ asks
-
--- of a word that others are to follow: nothing is found; or it ends within the line, and the words from the next place on say the rest
-pub record First (f : ℕ → List (List ℕ) → Command) (l : List ℕ) (here : Value) (asks : Command) : Type 0 where
-  pub missing : here ≡ Nothing → Unreadable ≡ asks
-  pub within : {v e : ℕ} → here ≡ Is v e → e ≤ length l
-  pub next : {v e : ℕ} → here ≡ Is v e → asks ≡ f v (words (drop (e + 1) l))
-
-module _ (form : List ℕ → Bool) (value : List ℕ → ℕ) (empty : form [] ≡ false) (l : List ℕ) (at : ℕ)
-    {here : Value} (is : here ≡ value_of form value (drop at l) at) where
-  ends_in : {v e : ℕ} → here ≡ Is v e → e ≤ length l
-  ends_in {v} {e} h = value_within form empty l v e value at (sym is ∙ h)
-
-  pub only : (k : ℕ → Command) → Only k l here (valued form value (λ n. ended (k n)) (words (drop at l)))
-  only k = record {
-    missing = λ h. sym (value_missing form value (λ n. ended (k n)) l at (sym is ∙ h));
-    last = λ {v} {e} h end. sym (value_found form value (λ n. ended (k n)) l at (sym is ∙ h) ∙ last_word (k v) l e end);
-    not_last = λ {v} {e} h more.
-        let within = ends_in h in
-        sym (value_found form value (λ n. ended (k n)) l at (sym is ∙ h) ∙ not_last_word (k v) l e (omega arith));
-  }
-
-  pub first : (f : ℕ → List (List ℕ) → Command) → ((v : ℕ) → f v [] ≡ f v ([] ∷ [])) → First f l here (valued form value f (words (drop at l)))
-  first f same = record {
-    missing = λ h. sym (value_missing form value f l at (sym is ∙ h));
-    within = λ h. ends_in h;
-    next = λ {v} {e} h. value_found form value f l at (sym is ∙ h) ∙ next_words (f v) l e (same v);
-  }
+pub ruleset last_steps = (common_steps, last_none, value_last)

@@ -1,11 +1,11 @@
 -- Document 01, "Replay", the form of a line: a list of bytes without the line feed, read as words and then as a command.
 -- Assumes nothing.
-use Rattle.std.specs.Prelude.{Bool, true, false, not, cond, ◌&&◌, ◌||◌, List, [], ◌∷◌, ℕ, ◌+◌, ◌-◌, ◌*◌, leb, ltb, eqb, length}
+use Rattle.std.specs.Prelude.{Bool, true, false, not, cond, ◌&&◌, ◌||◌, List, [], ◌∷◌, ℕ, ◌+◌, ◌-◌, ◌*◌, leb, ltb, eqb, length, Option, Some, None}
+use Rattle.std.specs.List.{list_all}
 use Rattle.limits.specs.Limits.{line_room}
 use Rattle.commands.specs.declared.Command.{Command}
 use Rattle.commands.specs.declared.Command.TheVariants.{Make, Line, Advance, Read, Write, Notify, Unreadable}
 use Rattle.commands.specs.declared.Opening.{Opening}
-use Rattle.commands.specs.declared.Opening.TheVariants as opening
 
 -- bytes: a space is 32, the digits 0 to 9 are 48 to 57, the capitals A to F are 65 to 70
 unfoldable pub is_digit : ℕ → Bool
@@ -20,10 +20,6 @@ hex_digit b = cond (is_digit b) (b - 48) (b - 55)
 -- the kinds are letters of l, e, c: 108, 101, 99
 unfoldable pub is_kind : ℕ → Bool
 is_kind b = eqb b 108 || eqb b 101 || eqb b 99
-
-unfoldable pub every : (ℕ → Bool) → List ℕ → Bool
-every f [] = true
-every f (b ∷ bs) = f b && every f bs
 
 -- "words separated by one space": a second space makes an empty word, which is of no form
 unfoldable pub join_first : ℕ → List (List ℕ) → List (List ℕ)
@@ -48,7 +44,7 @@ no_needless_zero (b ∷ []) = true
 no_needless_zero (b ∷ x ∷ bs) = not (eqb b 48)
 
 unfoldable pub is_number : List ℕ → Bool
-is_number w = no_needless_zero w && every is_digit w && leb (decimal w) 4294967295
+is_number w = no_needless_zero w && list_all is_digit w && leb (decimal w) 4294967295
 
 -- "offsets are eight hex digits, capitals"
 unfoldable pub hex_from : ℕ → List ℕ → ℕ
@@ -59,7 +55,7 @@ unfoldable pub hex : List ℕ → ℕ
 hex w = hex_from 0 w
 
 unfoldable pub is_offset : List ℕ → Bool
-is_offset w = eqb (length w) 8 && every is_hex_digit w
+is_offset w = eqb (length w) 8 && list_all is_hex_digit w
 
 -- a word of one byte
 unfoldable pub is_byte : ℕ → List ℕ → Bool
@@ -70,7 +66,7 @@ is_byte x (b ∷ c ∷ bs) = false
 -- "kinds being one or more letters of l, e, c"
 unfoldable pub is_kinds : List ℕ → Bool
 is_kinds [] = false
-is_kinds (b ∷ bs) = is_kind b && every is_kind bs
+is_kinds (b ∷ bs) = is_kind b && list_all is_kind bs
 
 -- `T n` (84), `R off` (82), `N c` (78)
 unfoldable pub of_two : List ℕ → List ℕ → Command
@@ -90,7 +86,7 @@ of_three w a b =
 unfoldable pub of_five : ℕ → List ℕ → List ℕ → List ℕ → List ℕ → List ℕ → Command
 of_five long w n c b kinds =
     cond (is_byte 80 w && is_number n && is_number c && is_number b && is_kinds kinds)
-    (Make (decimal n) (decimal c) (decimal b) (long - length kinds)) Unreadable
+    (Make (record { sources = decimal n; contexts = decimal c; bits = decimal b; kinds = long - length kinds })) Unreadable
 
 -- "all else not of these forms" is unreadable
 unfoldable pub of_words : ℕ → List (List ℕ) → Command
@@ -107,11 +103,11 @@ unfoldable pub command_of : List ℕ → Command
 command_of line = cond (ltb line_room (length line)) Unreadable (of_words (length line) (words line))
 
 -- "`P N C b kinds` must come first (any other first line is unreadable)"
-unfoldable pub opening_of : Command → Opening
-opening_of (Make n c b k) = opening.Board n c b k
-opening_of (Line s v) = opening.Unreadable
-opening_of (Advance n) = opening.Unreadable
-opening_of (Read off) = opening.Unreadable
-opening_of (Write off n) = opening.Unreadable
-opening_of (Notify c) = opening.Unreadable
-opening_of Unreadable = opening.Unreadable
+unfoldable pub opening_of : Command → Option Opening
+opening_of (Make o) = Some o
+opening_of (Line s v) = None
+opening_of (Advance n) = None
+opening_of (Read off) = None
+opening_of (Write off n) = None
+opening_of (Notify c) = None
+opening_of Unreadable = None

@@ -1,121 +1,77 @@
-// The forms of a line: what the words after its letter and the space ask for. Each function reads on from byte 2.
+// The forms of a line: what the words from a place on ask for. The words after a line's letter begin at `WORDS`.
 ghost use Rattle.std.specs.Prelude.{◌≡◌, ◌+◌, ◌≤◌, length, drop};
-ghost use Rattle.commands.specs.Grammar.{words};
-ghost use Rattle.commands.specs.Leaves.{advance_of, notify_of, read_of, write_of, level_of, line_of, make_of};
+ghost use Rattle.commands.specs.Grammar.{is_number, decimal, is_offset, hex, words};
+ghost use Rattle.commands.specs.Leaves.{last_word, write_of, level_of, line_of, make_of};
 
-use crate::Command;
-use crate::scan::{Value, kinds_at, number_at, offset_at};
+use crate::scan::{kinds_at, number_at, offset_at};
+use crate::{Command, Opening};
 
-// `T n`
-pub(crate) fn advance_of(line: &[u8]) -> Command
-    ensures { result ≡ advance_of (words (drop 2 line.now)) }
+// Where the words begin: after the letter and a space.
+pub(crate) const WORDS: usize = 2;
+
+// The number at a place, as the line's last word: the n of `T n`, the c of `N c`, the val of `W off val`.
+#[tactic(auto, using(crate::proofs::Words::last_steps))]
+pub(crate) fn last_number(line: &[u8], at: usize) -> Option<u32>
+    ensures { result ≡ last_word is_number decimal (words (drop at line.now)) }
 {
-    let ticks = number_at(line, 2);
-    let Value::Is(n, end) = ticks else {
-        return Command::Unreadable;
-    };
-    if end == line.len() {
-        return Command::Advance(n);
-    }
-    Command::Unreadable
+    number_at(line, at)?.last_of(line)
 }
 
-// `N c`
-pub(crate) fn notify_of(line: &[u8]) -> Command
-    ensures { result ≡ notify_of (words (drop 2 line.now)) }
+// The offset at a place, as the line's last word: the off of `R off`.
+#[tactic(auto, using(crate::proofs::Words::last_steps))]
+pub(crate) fn last_offset(line: &[u8], at: usize) -> Option<u32>
+    requires { at ≤ length line.now }
+    ensures { result ≡ last_word is_offset hex (words (drop at line.now)) }
 {
-    let context = number_at(line, 2);
-    let Value::Is(n, end) = context else {
-        return Command::Unreadable;
-    };
-    if end == line.len() {
-        return Command::Notify(n);
-    }
-    Command::Unreadable
-}
-
-// `R off`
-pub(crate) fn read_of(line: &[u8]) -> Command
-    requires { 2 ≤ length line.now }
-    ensures { result ≡ read_of (words (drop 2 line.now)) }
-{
-    let offset = offset_at(line, 2);
-    let Value::Is(n, end) = offset else {
-        return Command::Unreadable;
-    };
-    if end == line.len() {
-        return Command::Read(n);
-    }
-    Command::Unreadable
+    offset_at(line, at)?.last_of(line)
 }
 
 // `W off val`
-pub(crate) fn write_of(line: &[u8]) -> Command
-    requires { 2 ≤ length line.now }
-    ensures { result ≡ write_of (words (drop 2 line.now)) }
+#[tactic(auto, using(crate::proofs::Asked::none_steps))]
+pub(crate) fn write_of(line: &[u8], at: usize) -> Option<Command>
+    requires { at ≤ length line.now }
+    ensures { result ≡ write_of (words (drop at line.now)) }
 {
-    let offset = offset_at(line, 2);
-    let Value::Is(off, next) = offset else {
-        return Command::Unreadable;
-    };
-    let value = number_at(line, next + 1);
-    let Value::Is(n, end) = value else {
-        return Command::Unreadable;
-    };
-    if end == line.len() {
-        return Command::Write(off, n);
-    }
-    Command::Unreadable
+    let offset = offset_at(line, at)?;
+    let value = last_number(line, offset.end + 1)?;
+    Some(Command::Write(offset.value, value))
 }
 
 // The v of `L s v`: one byte, the last of the line.
-fn level_at(line: &[u8], at: usize, s: u32) -> Command
-    requires { at ≤ length line.now + 1 }
-    ensures { result ≡ level_of s (words (drop at line.now)) }
+#[tactic(auto, using(crate::proofs::Last::level_steps))]
+fn level_at(line: &[u8], at: usize) -> Option<bool>
+    ensures { result ≡ level_of (words (drop at line.now)) }
 {
-    if at + 1 != line.len() {
-        return Command::Unreadable;
+    match line.get(at..)? {
+        b"0" => Some(false),
+        b"1" => Some(true),
+        _ => None,
     }
-    let v = line[at];
-    if v == b'0' {
-        return Command::Line(s, false);
-    }
-    let high = v == b'1';
-    if high {
-        return Command::Line(s, true);
-    }
-    Command::Unreadable
 }
 
 // `L s v`
-pub(crate) fn line_of(line: &[u8]) -> Command
-    ensures { result ≡ line_of (words (drop 2 line.now)) }
+#[tactic(auto, using(crate::proofs::Asked::none_steps))]
+pub(crate) fn line_of(line: &[u8], at: usize) -> Option<Command>
+    ensures { result ≡ line_of (words (drop at line.now)) }
 {
-    let source = number_at(line, 2);
-    let Value::Is(s, next) = source else {
-        return Command::Unreadable;
-    };
-    level_at(line, next + 1, s)
+    let source = number_at(line, at)?;
+    let high = level_at(line, source.end + 1)?;
+    Some(Command::Line(source.value, high))
 }
 
 // `P N C b kinds`
-pub(crate) fn make_of(line: &[u8]) -> Command
-    ensures { result ≡ make_of (length line.now) (words (drop 2 line.now)) }
+#[tactic(auto, using(crate::proofs::Asked::none_steps))]
+pub(crate) fn make_of(line: &[u8], at: usize) -> Option<Opening>
+    ensures { result ≡ make_of (length line.now) (words (drop at line.now)) }
 {
-    let sources = number_at(line, 2);
-    let Value::Is(n, second) = sources else {
-        return Command::Unreadable;
-    };
-    let contexts = number_at(line, second + 1);
-    let Value::Is(c, third) = contexts else {
-        return Command::Unreadable;
-    };
-    let bits = number_at(line, third + 1);
-    let Value::Is(b, last) = bits else {
-        return Command::Unreadable;
-    };
-    if kinds_at(line, last + 1) {
-        return Command::Make(n, c, b, last + 1);
-    }
-    Command::Unreadable
+    let sources = number_at(line, at)?;
+    let contexts = number_at(line, sources.end + 1)?;
+    let bits = number_at(line, contexts.end + 1)?;
+    let kinds = bits.end + 1;
+    kinds_at(line, kinds).then_some(Opening {
+        sources: sources.value,
+        contexts: contexts.value,
+        bits: bits.value,
+        kinds,
+    })
 }

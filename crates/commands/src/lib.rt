@@ -4,16 +4,25 @@
 mod forms;
 mod scan;
 
-ghost use Rattle.std.specs.Prelude.{◌≡◌};
+ghost use Rattle.std.specs.Prelude.{◌≡◌, ◌≤◌, length, IfSome};
 ghost use Rattle.commands.specs.Grammar.{command_of, opening_of};
-ghost use Rattle.commands.specs.Leaves.{letter_of};
+ghost use Rattle.commands.specs.Leaves.{letter_of, read_as};
 
-use crate::forms::{advance_of, line_of, make_of, notify_of, read_of, write_of};
+use crate::forms::{WORDS, last_number, last_offset, line_of, make_of, write_of};
 
-// A command, with the numbers that its line gives. Of `Make` the last is where the letters of the kinds begin.
+// A board as a `P` line asks for it: N, C, b, and the place where the letters of the kinds begin.
+#[derive(Clone, Copy)]
+pub struct Opening {
+    pub sources: u32,
+    pub contexts: u32,
+    pub bits: u32,
+    pub kinds: usize,
+}
+
+// A command, with the numbers that its line gives.
 #[derive(Clone, Copy)]
 pub enum Command {
-    Make(u32, u32, u32, usize),
+    Make(Opening),
     Line(u32, bool),
     Advance(u32),
     Read(u32),
@@ -22,63 +31,46 @@ pub enum Command {
     Unreadable,
 }
 
-// What a script's first line asks for: a board, with N, C, b and the place where the letters of the kinds begin; or it is unreadable.
-#[derive(Clone, Copy)]
-pub enum Opening {
-    Board(u32, u32, u32, usize),
-    Unreadable,
+// The letter of a line, not too long, whose second byte is a space.
+#[tactic(auto, unfolding(crate::specs::Leaves::letter_of))]
+fn letter_of(line: &[u8]) -> Option<u8>
+    ensures letter { result ≡ letter_of line.now }
+    ensures long { IfSome result (λ _. 2 ≤ length line.now) }
+{
+    match line {
+        [letter, b' ', ..] if line.len() <= limits::LINE_ROOM => Some(*letter),
+        _ => None,
+    }
 }
 
-// The letter of a line of two bytes or more, not too long, whose second is a space; 0 for any other line.
-fn letter_of(line: &[u8]) -> u8
-    ensures { result ≡ letter_of line.now }
+// What a line of a form asks for: each letter has its form.
+fn of_form(line: &[u8]) -> Option<Command>
+    ensures { read_as result ≡ command_of line.now }
 {
-    let too_long = limits::LINE_ROOM < line.len();
-    if too_long {
-        return 0;
+    match letter_of(line)? {
+        b'L' => line_of(line, WORDS),
+        b'T' => Some(Command::Advance(last_number(line, WORDS)?)),
+        b'R' => Some(Command::Read(last_offset(line, WORDS)?)),
+        b'W' => write_of(line, WORDS),
+        b'N' => Some(Command::Notify(last_number(line, WORDS)?)),
+        b'P' => Some(Command::Make(make_of(line, WORDS)?)),
+        _ => None,
     }
-    if line.len() < 2 {
-        return 0;
-    }
-    let space = line[1];
-    if space != b' ' {
-        return 0;
-    }
-    line[0]
 }
 
 // What a line asks for.
 pub fn parse(line: &[u8]) -> Command
     ensures { result ≡ command_of line.now }
 {
-    match letter_of(line) {
-        b'L' => line_of(line),
-        b'T' => advance_of(line),
-        b'R' => read_of(line),
-        b'W' => write_of(line),
-        b'N' => notify_of(line),
-        b'P' => make_of(line),
-        _ => Command::Unreadable,
-    }
-}
-
-// A command as a script's first.
-fn opening_of(command: Command) -> Opening
-    ensures { result ≡ opening_of command }
-{
-    match command {
-        Command::Make(n, c, b, at) => Opening::Board(n, c, b, at),
-        _ => Opening::Unreadable,
-    }
+    of_form(line).unwrap_or(Command::Unreadable)
 }
 
 // What a script's first line asks for: only `P N C b kinds` is readable there.
-pub fn parse_opening(line: &[u8]) -> Opening
+pub fn parse_opening(line: &[u8]) -> Option<Opening>
     ensures { result ≡ opening_of (command_of line.now) }
 {
-    let opens = letter_of(line) == b'P';
-    if opens {
-        return opening_of(make_of(line));
+    match letter_of(line)? {
+        b'P' => make_of(line, WORDS),
+        _ => None,
     }
-    Opening::Unreadable
 }

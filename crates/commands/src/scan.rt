@@ -1,139 +1,109 @@
 // Scanning: what stands at a place of a line. Leaves: the line and numbers only, one pass over the bytes.
-ghost use Rattle.std.specs.Prelude.{◌≡◌, ◌≤◌, length, drop};
-ghost use Rattle.commands.specs.Grammar.{is_digit, is_kind, is_kinds};
-ghost use Rattle.commands.specs.Leaves.{number_at, offset_at, ends_with, digits_from, hex_worth};
+ghost use Rattle.std.specs.Prelude.{◌≡◌, ◌<◌, ◌≤◌, length, drop, IfSome};
+ghost use Rattle.commands.specs.Grammar.{is_kind, is_kinds};
+ghost use Rattle.commands.specs.Leaves.{last_value, number_at, offset_at, ends_with, number_rest, hex_worth};
 
-// The value of a word and the place of the byte that ends it; or nothing, where the word is not of the form that is asked for.
+// A word of the form that is asked for: its value, and the place of the byte that ends it.
 #[derive(Clone, Copy)]
-pub(crate) enum Value {
-    Is(u32, usize),
-    Nothing,
+pub(crate) struct Word {
+    pub value: u32,
+    pub end: usize,
 }
 
-// A byte as a number of 64 bits.
-fn wide(x: u8) -> u64
-    ensures { (result ≡ x) × (result ≤ 255) }
-{
-    x as u64
+impl Word {
+    // The word's value, where it is the last of its line.
+    #[tactic(auto, unfolding(crate::specs::Leaves::last_value))]
+    pub(crate) fn last_of(self, line: &[u8]) -> Option<u32>
+        ensures { result ≡ last_value self (length line.now) }
+    {
+        (self.end == line.len()).then_some(self.value)
+    }
 }
 
-fn is_digit(b: u8) -> bool
-    ensures { result ≡ is_digit b }
-{
-    (b'0' <= b) & (b <= b'9')
-}
-
+#[tactic(auto, unfolding(crate::specs::Grammar::is_kind))]
 fn is_kind(b: u8) -> bool
     ensures { result ≡ is_kind b }
 {
-    (b == b'l') | (b == b'e') | (b == b'c')
+    matches!(b, b'l' | b'e' | b'c')
 }
 
-// What a hex digit is worth, and 16 for any other byte.
-fn hex_worth(b: u8) -> u64
-    ensures { result ≡ hex_worth b }
+// What a hex digit is worth.
+#[tactic(auto, unfolding(crate::specs::Leaves::hex_worth, crate::specs::Grammar::is_hex_digit, crate::specs::Grammar::hex_digit, crate::specs::Grammar::is_digit))]
+fn hex_worth(b: u8) -> Option<u32>
+    ensures value { result ≡ hex_worth b }
+    ensures small { IfSome result (λ d. d < 16) }
 {
-    if is_digit(b) {
-        return wide(b) - 48;
+    if b.is_ascii_digit() {
+        return Some(u32::from(b - b'0'));
     }
-    if (b'A' <= b) & (b <= b'F') {
-        return wide(b) - 55;
+    if matches!(b, b'A'..=b'F') {
+        return Some(u32::from(b - b'A') + 10);
     }
-    16
+    None
 }
 
-// The value v of a word that ends here: at a space or at the end of the line.
-fn ends_with(line: &[u8], at: usize, v: u32) -> Value
-    requires { at ≤ length line.now }
-    ensures { result ≡ ends_with v (drop at line.now) at }
+// A word with a value that ends here: at a space or at the end of the line.
+#[tactic(auto, using(crate::proofs::Digits::ends_at))]
+fn ends_with(line: &[u8], at: usize, value: u32) -> Option<Word>
+    ensures value { result ≡ ends_with value (drop at line.now) at }
+    ensures within { at ≤ length line.now → IfSome result (λ w. w.end ≤ length line.now) }
 {
-    if at == line.len() {
-        return Value::Is(v, at);
+    match line.get(at) {
+        None | Some(b' ') => Some(Word { value, end: at }),
+        Some(_) => None,
     }
-    if line[at] == b' ' {
-        return Value::Is(v, at);
-    }
-    Value::Nothing
 }
 
-// The value of a number whose digits before `from` are worth `first`. Summed in 64 bits, so that nothing wraps.
-fn digits_from(line: &[u8], from: usize, first: u64) -> Value
-    requires { (from ≤ length line.now) × (first ≤ 4294967295) }
-    ensures { result ≡ digits_from first (drop from line.now) from }
+// The rest of a number, whose digits before it are worth `first`.
+#[tactic(auto, using(crate::proofs::Digits::number_steps))]
+fn number_rest(line: &[u8], from: usize, first: u32) -> Option<Word>
+    requires { from ≤ length line.now }
+    ensures value { result ≡ number_rest first (drop from line.now) from }
+    ensures within { IfSome result (λ w. w.end ≤ length line.now) }
 {
-    let mut v = first;
-    let mut i = from;
-    while i < line.len() {
-        let b = line[i];
-        if b == b' ' {
-            return Value::Is(v as u32, i);
+    let mut value = first;
+    let mut end = from;
+    for b in &line[from..] {
+        if !b.is_ascii_digit() {
+            break;
         }
-        if !is_digit(b) {
-            return Value::Nothing;
-        }
-        v = v * 10 + (wide(b) - 48);
-        let past = 4294967295 < v;
-        if past {
-            return Value::Nothing;
-        }
-        i += 1;
+        value = value.checked_mul(10)?.checked_add(u32::from(*b - b'0'))?;
+        end += 1;
     }
-    Value::Is(v as u32, i)
+    ends_with(line, end, value)
 }
 
 // The number at a place: no needless leading zero, at most 4294967295.
-pub(crate) fn number_at(line: &[u8], at: usize) -> Value
-    ensures { result ≡ number_at line.now at }
+#[tactic(auto, using(crate::proofs::Digits::number_starts))]
+pub(crate) fn number_at(line: &[u8], at: usize) -> Option<Word>
+    ensures value { result ≡ number_at line.now at }
+    ensures within { IfSome result (λ w. w.end ≤ length line.now) }
 {
-    if line.len() <= at {
-        return Value::Nothing;
+    match *line.get(at)? {
+        b'0' => ends_with(line, at + 1, 0),
+        b @ b'1'..=b'9' => number_rest(line, at + 1, u32::from(b - b'0')),
+        _ => None,
     }
-    let b = line[at];
-    if !is_digit(b) {
-        return Value::Nothing;
-    }
-    let zero = b == b'0';
-    if zero {
-        return ends_with(line, at + 1, 0);
-    }
-    digits_from(line, at + 1, wide(b) - 48)
 }
 
 // The offset at a place: eight hex digits, capitals.
-pub(crate) fn offset_at(line: &[u8], at: usize) -> Value
+#[tactic(auto, using(crate::proofs::Digits::offset_steps))]
+pub(crate) fn offset_at(line: &[u8], at: usize) -> Option<Word>
     requires { at ≤ length line.now }
-    ensures { result ≡ offset_at line.now at }
+    ensures value { result ≡ offset_at line.now at }
+    ensures within { IfSome result (λ w. w.end ≤ length line.now) }
 {
-    if line.len() - at < 8 {
-        return Value::Nothing;
+    let mut value = 0;
+    for b in line.get(at..at + 8)? {
+        value = value * 16 + hex_worth(*b)?;
     }
-    let mut v: u64 = 0;
-    let mut j: usize = 0;
-    while j < 8 {
-        let d = hex_worth(line[at + j]);
-        if 15 < d {
-            return Value::Nothing;
-        }
-        v = v * 16 + d;
-        j += 1;
-    }
-    ends_with(line, at + 8, v as u32)
+    ends_with(line, at + 8, value)
 }
 
 // Whether the bytes from a place to the end of the line are kinds: one or more letters of l, e, c.
+#[tactic(auto, using(crate::proofs::Last::kinds_here), unfolding(crate::specs::Grammar::is_kinds))]
 pub(crate) fn kinds_at(line: &[u8], at: usize) -> bool
     ensures { result ≡ is_kinds (drop at line.now) }
 {
-    if line.len() <= at {
-        return false;
-    }
-    let mut i = at;
-    while i < line.len() {
-        let b = line[i];
-        if !is_kind(b) {
-            return false;
-        }
-        i += 1;
-    }
-    true
+    at < line.len() && line[at..].iter().all(|b| is_kind(*b))
 }
