@@ -37,15 +37,12 @@ more_not : (form : List ℕ → Bool) (value : List ℕ → ℕ) (b : ℕ) (bs :
 more_not form value b bs at h k = value_more form value b bs at h ∙ not_of (λ w. form (b ∷ w)) (λ w. value (b ∷ w)) bs (at + 1) (k (first_word bs))
 
 pub digit_bounds : (b : ℕ) → So (is_digit b) → (48 ≤ b) × (b ≤ 57)
-unfolding is_digit
 digit_bounds b h = (leb-true 48 b (and_left (leb 48 b) (leb b 57) h), leb-true b 57 (and_right (leb 48 b) (leb b 57) h))
 
 is_digit_so : (b : ℕ) → IsAsciiDigit b → So (is_digit b)
-unfolding is_digit
 is_digit_so b h = and_intro (le-leb 48 b h.0) (le-leb b 57 h.1)
 
 is_digit_not : (b : ℕ) → IsNotAsciiDigit b → is_digit b ≡ false
-unfolding is_digit
 is_digit_not b h = ⊎_elim (λ (k : b < 48). and_fails_left (leb b 57) (lt-leb 48 b k)) (λ (k : 57 < b). and_fails_right (leb 48 b) (lt-leb b 57 k)) h
 
 digit_no_space : (b : ℕ) → So (is_digit b) → eqb b 32 ≡ false
@@ -113,7 +110,7 @@ no_zero b [] h = refl
 no_zero b (c ∷ w) h = ap not h
 
 zero_first : (bs : List ℕ) (at : ℕ) → value_of is_number decimal (48 ∷ bs) at ≡ ends_with 0 bs (at + 1)
-unfolding value_of first_word is_number no_needless_zero decimal decimal_from ends_with is_digit
+unfolding value_of first_word is_number no_needless_zero decimal decimal_from ends_with
 zero_first [] at = refl
 zero_first (b ∷ bs) at = by_cases (eqb b 32)
   where
@@ -166,7 +163,6 @@ module _ (l : List ℕ) (at : ℕ) (h : at < length l) where
 pub ruleset number_starts = (common_steps, number_none, number_not, number_zero, number_more)
 
 space_not : is_hex_digit 32 ≡ false
-unfolding is_hex_digit is_digit
 space_not = refl
 
 hex_no_space : (b : ℕ) → So (is_hex_digit b) → eqb b 32 ≡ false

@@ -73,7 +73,6 @@ one_or_more (b ∷ bs) = by_cases (eqb b 32) (one_or_more bs)
     by_cases false (inr e) = inr (b ∷ e.0, e.1, e.2, ap (join_first b) e.3)
 
 kind_no_space : (b : ℕ) → So (is_kind b) → eqb b 32 ≡ false
-unfolding is_kind
 kind_no_space b h = so_not (eqb b 32) (λ e. not_so refl (subst (λ (x : ℕ). So (is_kind x)) (eqb-true b 32 e) h))
 
 pub kinds_alone : (l : List ℕ) → So (list_all is_kind l) → words l ≡ l ∷ []

@@ -150,7 +150,7 @@ few_first long (x ∷ []) h = cond_elim (λ (ws : List (List ℕ)). of_words lon
 few_first long (x ∷ y ∷ l) h = absurd (omega arith)
 
 pub command_is : (l : List ℕ) → command_of l ≡ asked l (letter_of l)
-unfolding command_of letter_of asked
+unfolding command_of asked
 command_is [] = few_first 0 [] (omega arith)
 command_is (x ∷ []) = few_first 1 (x ∷ []) (omega arith)
 command_is (x ∷ y ∷ l) = by_cases (leb (length m) line_room) refl
@@ -178,6 +178,9 @@ Unlettered x = (x ≡ 76 → ⊥) × (x ≡ 84 → ⊥) × (x ≡ 82 → ⊥) ×
 
 -- a line's command by its letter: none, ..
 module _ (l : List ℕ) where
+  abbrev after : List (List ℕ)
+  after = words (drop 2 l)
+
   pub none_told : None ≡ letter_of l → Unreadable ≡ command_of l
   unfolding asked
   none_told e = sym (command_is l ∙ ap (asked l) (sym e))
@@ -190,33 +193,55 @@ module _ (l : List ℕ) where
   unfolding asked is_byte
   other_told {x} e r =
       sym (ap (cond (eqb x 32) Unreadable)
-      (no_letter (x ∷ []) (ne_eqb _ _ r.1) (ne_eqb _ _ r.2) (ne_eqb _ _ r.4) (ne_eqb _ _ r.0) (ne_eqb _ _ r.3) (ne_eqb _ _ r.5)
-      (length l) (words (drop 2 l)))
+      (no_letter (x ∷ []) (ne_eqb _ _ r.1) (ne_eqb _ _ r.2) (ne_eqb _ _ r.4) (ne_eqb _ _ r.0) (ne_eqb _ _ r.3) (ne_eqb _ _ r.5) (length l) after)
       ∙ cond_same (eqb x 32) Unreadable)
       ∙ told x e refl
 
   -- .. and each of these, with what its form asks for
   module _ {x : ℕ} (e : Some x ≡ letter_of l) where
-    pub line_told : x ≡ 76 → (k : Option Command) → k ≡ line_of (words (drop 2 l)) → read_as k ≡ command_of l
+    pub line_told : x ≡ 76 → (k : Option Command) → k ≡ line_of after → read_as k ≡ command_of l
     unfolding asked
-    line_told is k h = ap read_as h ∙ sym (of_line (length l) (words (drop 2 l))) ∙ told 76 e is
+    line_told is k h = ap read_as h ∙ sym (of_line (length l) after) ∙ told 76 e is
 
-    pub advance_told : x ≡ 84 → (v : Option ℕ) → v ≡ last_word is_number decimal (words (drop 2 l)) → read_as (option_map Advance v) ≡ command_of l
+    pub write_told : x ≡ 87 → (k : Option Command) → k ≡ write_of after → read_as k ≡ command_of l
     unfolding asked
-    advance_told is v h = ap (λ o. read_as (option_map Advance o)) h ∙ sym (of_advance (length l) (words (drop 2 l))) ∙ told 84 e is
+    write_told is k h = ap read_as h ∙ sym (of_write (length l) after) ∙ told 87 e is
 
-    pub read_told : x ≡ 82 → (v : Option ℕ) → v ≡ last_word is_offset hex (words (drop 2 l)) → read_as (option_map Read v) ≡ command_of l
-    unfolding asked
-    read_told is v h = ap (λ o. read_as (option_map Read o)) h ∙ sym (of_read (length l) (words (drop 2 l))) ∙ told 82 e is
+    of_option : {A : Type 0} (y : ℕ) (k : A → Command) {o r : Option A} → x ≡ y → asked l (Some y) ≡ read_as (option_map k r) → o ≡ r →
+        read_as (option_map k o) ≡ command_of l
+    of_option y k is f h = ap (λ o. read_as (option_map k o)) h ∙ sym f ∙ told y e is
 
-    pub write_told : x ≡ 87 → (k : Option Command) → k ≡ write_of (words (drop 2 l)) → read_as k ≡ command_of l
+    pub advance_some : {n : ℕ} → x ≡ 84 → Some n ≡ last_word is_number decimal after → Advance n ≡ command_of l
     unfolding asked
-    write_told is k h = ap read_as h ∙ sym (of_write (length l) (words (drop 2 l))) ∙ told 87 e is
+    advance_some is h = of_option 84 Advance is (of_advance (length l) after) h
 
-    pub notify_told : x ≡ 78 → (v : Option ℕ) → v ≡ last_word is_number decimal (words (drop 2 l)) → read_as (option_map Notify v) ≡ command_of l
+    pub advance_none : x ≡ 84 → None ≡ last_word is_number decimal after → Unreadable ≡ command_of l
     unfolding asked
-    notify_told is v h = ap (λ o. read_as (option_map Notify o)) h ∙ sym (of_notify (length l) (words (drop 2 l))) ∙ told 78 e is
+    advance_none is h = of_option 84 Advance is (of_advance (length l) after) h
 
-    pub make_told : x ≡ 80 → (o : Option Opening) → o ≡ make_of (length l) (words (drop 2 l)) → read_as (option_map Make o) ≡ command_of l
+    pub read_some : {off : ℕ} → x ≡ 82 → Some off ≡ last_word is_offset hex after → Read off ≡ command_of l
     unfolding asked
-    make_told is o h = ap (λ p. read_as (option_map Make p)) h ∙ sym (of_make (length l) (words (drop 2 l))) ∙ told 80 e is
+    read_some is h = of_option 82 Read is (of_read (length l) after) h
+
+    pub read_none : x ≡ 82 → None ≡ last_word is_offset hex after → Unreadable ≡ command_of l
+    unfolding asked
+    read_none is h = of_option 82 Read is (of_read (length l) after) h
+
+    pub notify_some : {c : ℕ} → x ≡ 78 → Some c ≡ last_word is_number decimal after → Notify c ≡ command_of l
+    unfolding asked
+    notify_some is h = of_option 78 Notify is (of_notify (length l) after) h
+
+    pub notify_none : x ≡ 78 → None ≡ last_word is_number decimal after → Unreadable ≡ command_of l
+    unfolding asked
+    notify_none is h = of_option 78 Notify is (of_notify (length l) after) h
+
+    pub make_some : {o : Opening} → x ≡ 80 → Some o ≡ make_of (length l) after → Make o ≡ command_of l
+    unfolding asked
+    make_some is h = of_option 80 Make is (of_make (length l) after) h
+
+    pub make_none : x ≡ 80 → None ≡ make_of (length l) after → Unreadable ≡ command_of l
+    unfolding asked
+    make_none is h = of_option 80 Make is (of_make (length l) after) h
+
+pub ruleset told_steps =
+    (none_told, other_told, line_told, write_told, advance_some, advance_none, read_some, read_none, notify_some, notify_none, make_some, make_none)

@@ -8,7 +8,7 @@ use Rattle.commands.specs.declared.Opening.{Opening}
 use Rattle.commands.specs.Grammar.{is_byte, words, of_two, of_three, of_five, of_words, command_of, opening_of}
 use Rattle.commands.specs.Leaves.{make_of, letter_of, read_as}
 use Rattle.commands.proofs.Words.{cond_same}
-use Rattle.commands.proofs.Letters.{asked, command_is, make_told}
+use Rattle.commands.proofs.Letters.{of_make, asked, command_is, none_told}
 
 -- the form of a first word that is not P opens nothing
 module _ (w : List ℕ) (not-p : is_byte 80 w ≡ false) where
@@ -28,10 +28,15 @@ opened (Some o) = refl
 opened None = refl
 
 module _ (l : List ℕ) where
-  pub opening_make : {x : ℕ} → Some x ≡ letter_of l → x ≡ 80 → opening_of (command_of l) ≡ make_of (length l) (words (drop 2 l))
+  pub opening_none : None ≡ letter_of l → None ≡ opening_of (command_of l)
+  unfolding opening_of
+  opening_none e = ap opening_of (none_told l e)
+
+  pub opening_make : {x : ℕ} → Some x ≡ letter_of l → x ≡ 80 → make_of (length l) (words (drop 2 l)) ≡ opening_of (command_of l)
+  unfolding asked
   opening_make e is =
-      let board = make_of (length l) (words (drop 2 l)) in
-      ap opening_of (sym (make_told l e is board refl)) ∙ opened board
+      sym (ap opening_of (command_is l ∙ ap (asked l) (sym e ∙ ap Some is) ∙ of_make (length l) (words (drop 2 l)))
+      ∙ opened (make_of (length l) (words (drop 2 l))))
 
   pub opening_other : (letter_of l ≡ Some 80 → ⊥) → opening_of (command_of l) ≡ None
   unfolding asked opening_of is_byte
@@ -46,3 +51,5 @@ module _ (l : List ℕ) where
 
   pub opening_not : {x : ℕ} → Some x ≡ letter_of l → (x ≡ 80 → ⊥) → None ≡ opening_of (command_of l)
   opening_not {x} e h = sym (opening_other (λ p. h (same_Some x 80 (e ∙ p))))
+
+pub ruleset opening_steps = (opening_none, opening_make, opening_not)

@@ -94,7 +94,7 @@ module _ (form : List ℕ → Bool) (value : List ℕ → ℕ) (l : List ℕ) (a
 
     -- it is to be the last
     pub value_last : w.end ≤ length l → last_word form value (words (drop at l)) ≡ last_value w (length l)
-    unfolding last_word last_value ended words_after
+    unfolding last_word ended words_after
     value_last k = value_some ended ∙ ⊎_elim
         (λ (more : w.end < length l).
         ap (λ (m : List ℕ). ended w.value (words_after m)) (drop-cons l w.end 0 more)

@@ -8,17 +8,17 @@ use Rattle.commands.specs.declared.Command.TheVariants.{Make, Line, Advance, Rea
 use Rattle.commands.specs.declared.Opening.{Opening}
 
 -- bytes: a space is 32, the digits 0 to 9 are 48 to 57, the capitals A to F are 65 to 70
-unfoldable pub is_digit : ℕ → Bool
+abbrev pub is_digit : ℕ → Bool
 is_digit b = leb 48 b && leb b 57
 
-unfoldable pub is_hex_digit : ℕ → Bool
+abbrev pub is_hex_digit : ℕ → Bool
 is_hex_digit b = is_digit b || (leb 65 b && leb b 70)
 
-unfoldable pub hex_digit : ℕ → ℕ
+abbrev pub hex_digit : ℕ → ℕ
 hex_digit b = cond (is_digit b) (b - 48) (b - 55)
 
 -- the kinds are letters of l, e, c: 108, 101, 99
-unfoldable pub is_kind : ℕ → Bool
+abbrev pub is_kind : ℕ → Bool
 is_kind b = eqb b 108 || eqb b 101 || eqb b 99
 
 -- "words separated by one space": a second space makes an empty word, which is of no form

@@ -54,7 +54,7 @@ valued form value f (w ∷ ws) = cond (form w) (f (value w) ws) None
 unfoldable pub last_word : (List ℕ → Bool) → (List ℕ → ℕ) → List (List ℕ) → Option ℕ
 last_word form value = valued form value ended
 
-unfoldable pub last_value : Word → ℕ → Option ℕ
+abbrev pub last_value : Word → ℕ → Option ℕ
 last_value w long = cond (eqb w.end long) (Some w.value) None
 
 -- `W off val`: what the words after the letter ask for, ..
@@ -85,7 +85,7 @@ unfoldable pub make_of : ℕ → List (List ℕ) → Option Opening
 make_of long = valued is_number decimal (contexts_of long)
 
 -- the letter: the first byte of a line of two bytes or more, not too long, whose second is a space
-unfoldable pub letter_of : List ℕ → Option ℕ
+abbrev pub letter_of : List ℕ → Option ℕ
 letter_of l = cond (leb (length l) line_room && leb 2 (length l) && eqb (get_or l 1 0) 32) (Some (get_or l 0 0)) None
 
 -- a line of no form is unreadable

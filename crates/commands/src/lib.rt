@@ -32,7 +32,6 @@ pub enum Command {
 }
 
 // The letter of a line, not too long, whose second byte is a space.
-#[tactic(auto, unfolding(crate::specs::Leaves::letter_of))]
 fn letter_of(line: &[u8]) -> Option<u8>
     ensures letter { result ≡ letter_of line.now }
     ensures long { IfSome result (λ _. 2 ≤ length line.now) }
@@ -44,6 +43,7 @@ fn letter_of(line: &[u8]) -> Option<u8>
 }
 
 // What a line of a form asks for: each letter has its form.
+#[tactic(auto, using(crate::proofs::Letters::told_steps))]
 fn of_form(line: &[u8]) -> Option<Command>
     ensures { read_as result ≡ command_of line.now }
 {
@@ -66,6 +66,7 @@ pub fn parse(line: &[u8]) -> Command
 }
 
 // What a script's first line asks for: only `P N C b kinds` is readable there.
+#[tactic(auto, using(crate::proofs::Openings::opening_steps))]
 pub fn parse_opening(line: &[u8]) -> Option<Opening>
     ensures { result ≡ opening_of (command_of line.now) }
 {

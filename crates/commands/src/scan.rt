@@ -12,7 +12,6 @@ pub(crate) struct Word {
 
 impl Word {
     // The word's value, where it is the last of its line.
-    #[tactic(auto, unfolding(crate::specs::Leaves::last_value))]
     pub(crate) fn last_of(self, line: &[u8]) -> Option<u32>
         ensures { result ≡ last_value self (length line.now) }
     {
@@ -20,7 +19,6 @@ impl Word {
     }
 }
 
-#[tactic(auto, unfolding(crate::specs::Grammar::is_kind))]
 fn is_kind(b: u8) -> bool
     ensures { result ≡ is_kind b }
 {
@@ -28,7 +26,7 @@ fn is_kind(b: u8) -> bool
 }
 
 // What a hex digit is worth.
-#[tactic(auto, unfolding(crate::specs::Leaves::hex_worth, crate::specs::Grammar::is_hex_digit, crate::specs::Grammar::hex_digit, crate::specs::Grammar::is_digit))]
+#[tactic(auto, unfolding(crate::specs::Leaves::hex_worth))]
 fn hex_worth(b: u8) -> Option<u32>
     ensures value { result ≡ hex_worth b }
     ensures small { IfSome result (λ d. d < 16) }
@@ -101,7 +99,7 @@ pub(crate) fn offset_at(line: &[u8], at: usize) -> Option<Word>
 }
 
 // Whether the bytes from a place to the end of the line are kinds: one or more letters of l, e, c.
-#[tactic(auto, using(crate::proofs::Last::kinds_here), unfolding(crate::specs::Grammar::is_kinds))]
+#[tactic(auto, using(crate::proofs::Last::kinds_none))]
 pub(crate) fn kinds_at(line: &[u8], at: usize) -> bool
     ensures { result ≡ is_kinds (drop at line.now) }
 {

@@ -1,3 +1,4 @@
+-- `forms::line_of` meets its contract: the level after the source, which may be missing.
 use Rattle.std.proofs.Common.{◌∙◌, Some, None}
 use Rattle.commands.proofs.Asked.{line_done}
 use Rattle.commands.proofs.forms.line_of.Goals as goal

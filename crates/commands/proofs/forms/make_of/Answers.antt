@@ -1,3 +1,4 @@
+-- `forms::make_of` meets its contract: three numbers, each of which may be missing, and the kinds after them.
 use Rattle.std.proofs.Common.{◌∙◌, sym, length}
 use Rattle.commands.proofs.Asked.{make_next, contexts_none, contexts_next, bits_none, bits_next, kinds_done}
 use Rattle.commands.proofs.forms.make_of.Goals as goal

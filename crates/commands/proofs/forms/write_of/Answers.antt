@@ -1,3 +1,4 @@
+-- `forms::write_of` meets its contract: the value after the offset, which may be missing.
 use Rattle.std.proofs.Common.{◌∙◌, Some, None}
 use Rattle.commands.proofs.Asked.{write_done}
 use Rattle.commands.proofs.forms.write_of.Goals as goal

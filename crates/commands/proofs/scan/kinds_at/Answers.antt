@@ -1,3 +1,4 @@
+-- `scan::kinds_at` meets its contract: every letter from the place on is looked at.
 use Rattle.std.proofs.Common.{◌∙◌, sym, ◌-◌, length, take, drop, arith, rules, tests}
 use Rattle.std.proofs.lemmas.Iterator.{YieldsList-from_slice}
 use Rattle.std.proofs.lemmas.Iterator.Search.{all_from_yields_List}

@@ -1,3 +1,4 @@
+-- `scan::offset_at` meets its contract: one digit more.
 use Rattle.std.proofs.Common.{arith}
 use Rattle.commands.proofs.Digits.{offset_steps, one_more, digits_fit}
 use Rattle.commands.proofs.scan.offset_at.Goals as goal
