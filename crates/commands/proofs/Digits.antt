@@ -31,12 +31,7 @@ value_more form value b bs at h =
     ap (λ (w : List ℕ). cond (form w) (found (value w) (at + length w)) None) (cond_not [] (b ∷ first_word bs) h)
     ∙ ap (λ (e : ℕ). cond (form (b ∷ first_word bs)) (found (value (b ∷ first_word bs)) e) None) (omega arith)
 
--- .. and of no form where no word is that begins with it
-more_not : (form : List ℕ → Bool) (value : List ℕ → ℕ) (b : ℕ) (bs : List ℕ) (at : ℕ) → eqb b 32 ≡ false →
-    ((w : List ℕ) → form (b ∷ w) ≡ false) → value_of form value (b ∷ bs) at ≡ None
-more_not form value b bs at h k = value_more form value b bs at h ∙ not_of (λ w. form (b ∷ w)) (λ w. value (b ∷ w)) bs (at + 1) (k (first_word bs))
-
-pub digit_bounds : (b : ℕ) → So (is_digit b) → (48 ≤ b) × (b ≤ 57)
+digit_bounds : (b : ℕ) → So (is_digit b) → (48 ≤ b) × (b ≤ 57)
 digit_bounds b h = (leb-true 48 b (and_left (leb 48 b) (leb b 57) h), leb-true b 57 (and_right (leb 48 b) (leb b 57) h))
 
 is_digit_so : (b : ℕ) → IsAsciiDigit b → So (is_digit b)
@@ -237,7 +232,7 @@ unfolding offset_left
 offset_ends l at v = rest_ends v (drop (at + 8) l) (at + 8)
 
 -- digits so far are worth little enough for one more
-pub digits_fit : (v j : ℕ) → v < 16 ^ j → j < 8 → v * 16 + 16 ≤ 4294967296
+pub digits_fit : (v j : ℕ) → v < 16 ^ j → j < 8 → v * 16 ≤ 4294967280
 digits_fit v j h k = let below : j ≤ 7 = omega arith in omega (arith, pow-le-pow_right {n = 16} (lit≤ tt) below)
 
 pub one_more : (v d j : ℕ) → v < 16 ^ j → d < 16 → v * 16 + d < 16 ^ (j + 1)

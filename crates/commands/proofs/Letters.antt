@@ -8,12 +8,8 @@ use Rattle.commands.specs.declared.Command.{Command}
 use Rattle.commands.specs.declared.Opening.{Opening}
 use Rattle.commands.specs.declared.Command.TheVariants.{Make, Line, Advance, Read, Write, Notify, Unreadable}
 use Rattle.commands.specs.Grammar.{is_number, decimal, is_offset, hex, is_byte, is_kinds, join_first, words, of_two, of_three, of_five, of_words, command_of}
-use Rattle.commands.specs.Leaves.{valued, ended, last_word, write_of, level_of, line_of, kinds_of, bits_of, contexts_of, make_of, letter_of, read_as}
+use Rattle.commands.specs.Leaves.{valued, ended, last_word, write_of, level_of, line_of, kinds_of, make_of, letter_of, read_as}
 use Rattle.commands.proofs.Words.{cond_same}
-
--- what a choice of commands reads as
-read_cond : (t : Bool) (k j : Option Command) → read_as (cond t k j) ≡ cond t (read_as k) (read_as j)
-read_cond t k j = cond_ap read_as t k j
 
 -- the words after a letter that takes one
 module _ (x : ℕ) (form : List ℕ → Bool) (value : List ℕ → ℕ) (k : ℕ → Command)
@@ -88,7 +84,7 @@ of_write =
     (λ n. refl) (λ n b c ws. simp cond_same) refl refl refl refl
 
 pub of_make : (long : ℕ) (ws : List (List ℕ)) → of_words long ((80 ∷ []) ∷ ws) ≡ read_as (option_map Make (make_of long ws))
-unfolding make_of contexts_of bits_of kinds_of valued of_words of_two of_three of_five is_byte ended
+unfolding make_of kinds_of valued of_words of_two of_three of_five is_byte ended
 of_make long [] = refl
 of_make long (n ∷ []) = simp cond_same
 of_make long (n ∷ c ∷ []) = simp cond_same

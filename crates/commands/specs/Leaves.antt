@@ -69,20 +69,14 @@ level_of (w ∷ ws) = cond (is_byte 48 w) (ended false ws) (cond (is_byte 49 w) 
 unfoldable pub line_of : List (List ℕ) → Option Command
 line_of = valued is_number decimal (λ s ws. option_map (Line s) (level_of ws))
 
--- .. and `P N C b kinds`, of a line of `long` bytes: from the kinds on, from b on, from C on, and from N on
+-- .. and `P N C b kinds`, of a line of `long` bytes
 unfoldable pub kinds_of : ℕ → ℕ → ℕ → ℕ → List (List ℕ) → Option Opening
 kinds_of long n c b [] = None
 kinds_of long n c b (w ∷ ws) =
     cond (is_kinds w) (ended (record { sources = n; contexts = c; bits = b; kinds = long - length w }) ws) None
 
-unfoldable pub bits_of : ℕ → ℕ → ℕ → List (List ℕ) → Option Opening
-bits_of long n c = valued is_number decimal (kinds_of long n c)
-
-unfoldable pub contexts_of : ℕ → ℕ → List (List ℕ) → Option Opening
-contexts_of long n = valued is_number decimal (bits_of long n)
-
 unfoldable pub make_of : ℕ → List (List ℕ) → Option Opening
-make_of long = valued is_number decimal (contexts_of long)
+make_of long = valued is_number decimal (λ n. valued is_number decimal (λ c. valued is_number decimal (kinds_of long n c)))
 
 -- the letter: the first byte of a line of two bytes or more, not too long, whose second is a space
 abbrev pub letter_of : List ℕ → Option ℕ

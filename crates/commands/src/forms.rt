@@ -27,7 +27,7 @@ pub(crate) fn last_offset(line: &[u8], at: usize) -> Option<u32>
 }
 
 // `W off val`
-#[tactic(auto, using(crate::proofs::Asked::none_steps))]
+#[tactic(auto, using(crate::proofs::Asked::write_steps))]
 pub(crate) fn write_of(line: &[u8], at: usize) -> Option<Command>
     requires { at ≤ length line.now }
     ensures { result ≡ write_of (words (drop at line.now)) }
@@ -50,7 +50,7 @@ fn level_at(line: &[u8], at: usize) -> Option<bool>
 }
 
 // `L s v`
-#[tactic(auto, using(crate::proofs::Asked::none_steps))]
+#[tactic(auto, using(crate::proofs::Asked::line_steps))]
 pub(crate) fn line_of(line: &[u8], at: usize) -> Option<Command>
     ensures { result ≡ line_of (words (drop at line.now)) }
 {
@@ -60,7 +60,7 @@ pub(crate) fn line_of(line: &[u8], at: usize) -> Option<Command>
 }
 
 // `P N C b kinds`
-#[tactic(auto, using(crate::proofs::Asked::none_steps))]
+#[tactic(auto, using(crate::proofs::Asked::make_steps))]
 pub(crate) fn make_of(line: &[u8], at: usize) -> Option<Opening>
     ensures { result ≡ make_of (length line.now) (words (drop at line.now)) }
 {

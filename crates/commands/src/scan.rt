@@ -25,7 +25,7 @@ fn is_kind(b: u8) -> bool
     matches!(b, b'l' | b'e' | b'c')
 }
 
-// What a hex digit is worth.
+// What a hex digit is worth. Two tests: a `match` on the two ranges takes a quarter more instructions for an offset.
 #[tactic(auto, unfolding(crate::specs::Leaves::hex_worth))]
 fn hex_worth(b: u8) -> Option<u32>
     ensures value { result ≡ hex_worth b }
