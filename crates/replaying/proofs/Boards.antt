@@ -10,6 +10,7 @@ use native.Mathlib.Omega.{arith}
 use lib.Dec.{eqb}
 use lib.ListN.{drop}
 use borrow.Author.Tests.{eqb-true}
+use Rattle.std.specs.Prelude.{Option, Some, None}
 use Rattle.laws.proofs.Truth.{dichotomy, cond_so, cond_not}
 use Rattle.model.specs.declared.State.{State}
 use Rattle.model.specs.Calls.{Call, respond}
@@ -18,7 +19,6 @@ use Rattle.model.proofs.Runs.{accounted}
 use Rattle.commands.specs.declared.Command.{Command}
 use Rattle.commands.specs.declared.Command.TheVariants.{Make, Line, Advance, Read, Write, Notify, Unreadable}
 use Rattle.commands.specs.declared.Opening.{Opening}
-use Rattle.commands.specs.declared.Opening.TheVariants as opening
 use Rattle.commands.specs.Grammar.{command_of, opening_of}
 use Rattle.replaying.specs.Replay.{Stand, before, on, ended, goes_on, commanded, kind_bytes, started, bad_start, first_line, answer, Replay, line_ends, fed, fed_all, last_in, closing, totals_line, finished, fresh, replay}
 use Rattle.replaying.specs.Script.{lines_from, lines_in, call_of, calls_in, making_by, making, board_of, calls_of, stand_after, rest_of, all_lines, Reached}
@@ -47,7 +47,7 @@ run_after s (a ∷ later) earlier = ap (λ (t : State). (respond a t).state) (ru
 
 commanded_runs : (c : Command) (s : State) → (commanded c s).stand ≡ on (run s (call_of c))
 unfolding commanded goes_on call_of run
-commanded_runs (Make n c b k) s = refl
+commanded_runs (Make o) s = refl
 commanded_runs (Line i v) s = refl
 commanded_runs (Advance n) s = refl
 commanded_runs (Read off) s = refl
@@ -68,10 +68,10 @@ unfolding through answer
 ended_through [] = refl
 ended_through (l ∷ ls) = ended_through ls
 
-first_made : (o : Opening) (bytes : List ℕ) → (first_line o bytes).stand ≡ cond (eqb (making_by o bytes).number 0) (on (making_by o bytes).state) ended
+first_made : (o : Option Opening) (bytes : List ℕ) → (first_line o bytes).stand ≡ cond (eqb (making_by o bytes).number 0) (on (making_by o bytes).state) ended
 unfolding first_line bad_start started making_by
-first_made (opening.Board n c b k) bytes = refl
-first_made opening.Unreadable bytes = refl
+first_made (Some o) bytes = refl
+first_made None bytes = refl
 
 lines_lead : (ls : List (List ℕ)) → through before ls ≡ stand_after ls
 unfolding through stand_after answer making
@@ -90,11 +90,11 @@ unfolding fresh lines_in
 stands_after input = fed_through fresh input ∙ lines_lead (lines_in input)
 
 -- the board that lines lead to is accounted for: every call of theirs, and no other
-made_accounted : (o : Opening) (bytes : List ℕ) (calls : List Call) → (making_by o bytes).number ≡ 0 →
+made_accounted : (o : Option Opening) (bytes : List ℕ) (calls : List Call) → (making_by o bytes).number ≡ 0 →
     Accounted (run (making_by o bytes).state calls) (past (making_by o bytes).state calls)
 unfolding making_by
-made_accounted (opening.Board n c b k) bytes calls e = accounted n c b (kind_bytes (drop k bytes)) e calls
-made_accounted opening.Unreadable bytes calls e = absurd (omega (arith, e))
+made_accounted (Some o) bytes calls e = accounted o.sources o.contexts o.bits (kind_bytes (drop o.kinds bytes)) e calls
+made_accounted None bytes calls e = absurd (omega (arith, e))
 
 -- the board that a script's lines lead to is so reached
 pub lines_reach : (lines : List (List ℕ)) (s : State) → stand_after lines ≡ on s → Reached lines s

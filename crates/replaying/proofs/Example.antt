@@ -12,8 +12,8 @@ use Rattle.model.specs.Run as runs
 use Rattle.model.proofs.Make.{made_sound}
 use Rattle.model.proofs.Quick.{quick_run, quick_past, run_quick, past_quick, computed}
 use Rattle.commands.specs.declared.Command.{Command}
-use Rattle.commands.specs.Grammar.{is_digit, is_hex_digit, hex_digit, is_kind, every, join_first, words, decimal_from, decimal, no_needless_zero, is_number, hex_from, hex, is_offset, is_byte, is_kinds, of_two, of_three, of_five, of_words, command_of, opening_of}
-use Rattle.replaying.specs.Replay.{digits_in, digits, refused_line, value_line, totals_line, goes_on, silent, kind_byte, kind_bytes, started, bad_start, first_line, line_ends, last_in, closing, finished, fresh, replay}
+use Rattle.commands.specs.Grammar.{join_first, words, decimal_from, decimal, no_needless_zero, is_number, hex_from, hex, is_offset, is_byte, is_kinds, of_two, of_three, of_five, of_words, command_of, opening_of}
+use Rattle.replaying.specs.Replay.{digits_in, digits, refused_line, value_line, totals_line, goes_on, silent, kind_byte, started, bad_start, first_line, line_ends, last_in, closing, finished, fresh, replay}
 use Rattle.replaying.specs.Script.{lines_from, lines_in, call_of, calls_in, making_by, making, board_of, calls_of}
 use Rattle.replaying.proofs.Swift.{swiftly, swift_answer, swift_ends, swift_fed, swift_all, replay_swift}
 
@@ -35,13 +35,13 @@ output =
 
 -- whoever unfolds this can read a line
 parsed : List ℕ → Command
-unfolding is_digit is_hex_digit hex_digit is_kind every join_first words decimal_from decimal no_needless_zero is_number hex_from hex is_offset is_byte is_kinds
+unfolding join_first words decimal_from decimal no_needless_zero is_number hex_from hex is_offset is_byte is_kinds
     of_two of_three of_five of_words command_of opening_of
 parsed bytes = command_of bytes
 
 pub example : replay script ≡ output
 unfolding computed parsed script output swiftly swift_answer swift_ends swift_fed swift_all digits_in digits refused_line value_line totals_line goes_on silent
-    kind_byte kind_bytes started bad_start first_line line_ends last_in closing finished fresh
+    kind_byte started bad_start first_line line_ends last_in closing finished fresh
 example = replay_swift script ∙ refl
 
 -- the board of the first line, and the calls of the later ones, the last first
@@ -54,7 +54,7 @@ calls =
     ∷ line 1 true ∷ []
 
 board_is : board_of (lines_in script) ≡ made
-unfolding parsed script lines_from lines_in board_of making making_by kind_byte kind_bytes made
+unfolding parsed script lines_from lines_in board_of making making_by kind_byte made
 board_is = refl
 
 calls_are : calls_of (lines_in script) ≡ calls

@@ -6,6 +6,7 @@ use Prim.Native.Nat.{ℕ, zero, suc, ◌+◌, ◌/◌, ◌%◌, ◌≤◌}
 use native.Mathlib.Omega.{arith}
 use lib.Dec.{ltb, eqb}
 use lib.ListN.{length, get_or, drop, length-append}
+use Rattle.std.specs.Prelude.{Option, Some, None}
 use Rattle.laws.proofs.Truth.{cond_elim}
 use Rattle.model.specs.declared.State.{State}
 use Rattle.model.specs.Refusals.{Outcome}
@@ -13,7 +14,6 @@ use Rattle.model.specs.Calls.{line, advance, read, write, notification, totals, 
 use Rattle.commands.specs.declared.Command.{Command}
 use Rattle.commands.specs.declared.Command.TheVariants.{Make, Line, Advance, Read, Write, Notify, Unreadable}
 use Rattle.commands.specs.declared.Opening.{Opening}
-use Rattle.commands.specs.declared.Opening.TheVariants as opening
 use Rattle.commands.specs.Grammar.{command_of, opening_of}
 use Rattle.replaying.specs.Replay.{digits_in, digits, refused_line, value_line, Stand, before, on, ended, goes_on, silent, commanded, kind_bytes, started, bad_start, first_line, answer, totals_line, Told, Replay, line_ends, last_in, closing, finished}
 use Rattle.replaying.specs.declared.Replaying.{Replaying}
@@ -48,7 +48,7 @@ told_short says h o = cond_elim (λ (l : List ℕ). length l ≤ 29) (eqb o.numb
 
 commanded_short : (c : Command) (s : State) → length (commanded c s).prints ≤ 29
 unfolding commanded
-commanded_short (Make n m b k) s = refused_short 11
+commanded_short (Make o) s = refused_short 11
 commanded_short (Line i v) s = told_short silent silent_short (respond (line i v) s)
 commanded_short (Advance n) s = told_short silent silent_short (respond (advance n) s)
 commanded_short (Read off) s = told_short (value_line 82) (value_short 82) (respond (read off) s)
@@ -60,10 +60,10 @@ started_short : (o : Outcome) → length (started o).prints ≤ 29
 unfolding started
 started_short o = cond_elim (λ (l : List ℕ). length l ≤ 29) (eqb o.number 0) {x = []} {y = refused_line o.number} (λ _. omega arith) (λ _. refused_short o.number)
 
-first_short : (o : Opening) (bytes : List ℕ) → length (first_line o bytes).prints ≤ 29
+first_short : (o : Option Opening) (bytes : List ℕ) → length (first_line o bytes).prints ≤ 29
 unfolding first_line bad_start
-first_short (opening.Board n m b k) bytes = started_short (make n m b (kind_bytes (drop k bytes)))
-first_short opening.Unreadable bytes = refused_short 11
+first_short (Some o) bytes = started_short (make o.sources o.contexts o.bits (kind_bytes (drop o.kinds bytes)))
+first_short None bytes = refused_short 11
 
 pub answer_short : (p : Stand) (l : List ℕ) → length (answer p l).prints ≤ 29
 unfolding answer

@@ -7,6 +7,7 @@ use Prim.Native.Nat.{ℕ}
 use lib.Dec.{eqb}
 use lib.ListN.{drop}
 use borrow.Author.Tests.{eqb-true}
+use Rattle.std.specs.Prelude.{Option, Some, None}
 use Rattle.laws.proofs.Truth.{cond_elim}
 use Rattle.model.specs.declared.State.{State}
 use Rattle.model.specs.declared.Refusal.TheVariants as refusal
@@ -18,7 +19,6 @@ use Rattle.model.proofs.Make.{made_sound}
 use Rattle.model.proofs.Quick.{quick, quick_is}
 use Rattle.commands.specs.Grammar.{command_of, opening_of}
 use Rattle.commands.specs.declared.Opening.{Opening}
-use Rattle.commands.specs.declared.Opening.TheVariants as opening
 use Rattle.commands.specs.declared.Command.{Command}
 use Rattle.commands.specs.declared.Command.TheVariants.{Make, Line, Advance, Read, Write, Notify, Unreadable}
 use Rattle.replaying.specs.Replay.{Stand, before, on, ended, Told, Replay, goes_on, silent, value_line, refused_line, kind_bytes, started, bad_start, commanded, first_line, answer, line_ends, fed, fed_all, last_in, finished, fresh, replay}
@@ -29,7 +29,7 @@ OnSound (on s) = Sound s
 OnSound ended = Unit {0}
 
 unfoldable pub swiftly : Command → State → Told
-swiftly (Make n c b k) s = record { stand = on s; prints = refused_line (number_of refusal.Unreadable) }
+swiftly (Make o) s = record { stand = on s; prints = refused_line (number_of refusal.Unreadable) }
 swiftly (Line i v) s = goes_on silent (quick (line i v) s)
 swiftly (Advance n) s = goes_on silent (quick (advance n) s)
 swiftly (Read off) s = goes_on (value_line 82) (quick (read off) s)
@@ -60,7 +60,7 @@ one says a s f = (ap (goes_on says) (quick_is s f a), stays_sound s a f)
 
 commanded_swift : (k : Command) (s : State) → Sound s → (commanded k s ≡ swiftly k s) × OnSound (commanded k s).stand
 unfolding commanded swiftly
-commanded_swift (Make n c b k) s f = (refl, f)
+commanded_swift (Make o) s f = (refl, f)
 commanded_swift (Line i v) s f = one silent (line i v) s f
 commanded_swift (Advance n) s f = one silent (advance n) s f
 commanded_swift (Read off) s f = one (value_line 82) (read off) s f
@@ -68,12 +68,12 @@ commanded_swift (Write off v) s f = one silent (write off v) s f
 commanded_swift (Notify c) s f = one (value_line 78) (notification c) s f
 commanded_swift Unreadable s f = (refl, f)
 
-first_sound : (o : Opening) (bytes : List ℕ) → OnSound (first_line o bytes).stand
+first_sound : (o : Option Opening) (bytes : List ℕ) → OnSound (first_line o bytes).stand
 unfolding first_line bad_start started
-first_sound (opening.Board n c b k) bytes =
-    let kinds : List ℕ = kind_bytes (drop k bytes) in
-    cond_elim OnSound (eqb (make n c b kinds).number 0) (λ t. (made_sound n c b kinds (eqb-true _ 0 t)).1) (λ _. tt)
-first_sound opening.Unreadable bytes = tt
+first_sound (Some o) bytes =
+    let kinds : List ℕ = kind_bytes (drop o.kinds bytes) in
+    cond_elim OnSound (eqb (make o.sources o.contexts o.bits kinds).number 0) (λ t. (made_sound o.sources o.contexts o.bits kinds (eqb-true _ 0 t)).1) (λ _. tt)
+first_sound None bytes = tt
 
 answer_swift : (p : Stand) (bytes : List ℕ) → OnSound p → (answer p bytes ≡ swift_answer p bytes) × OnSound (answer p bytes).stand
 unfolding answer swift_answer

@@ -1,18 +1,17 @@
 -- A script that comes in pieces: what is held of a replay from one piece to the next, and what a piece does to it.
 -- Assumes nothing.
-use Rattle.std.specs.Prelude.{Bool, true, cond, List, [], ◌∷◌, ◌++◌, ℕ, suc, ◌+◌, ◌/◌, leb, eqb, length, get_or, take, replicate}
+use Rattle.std.specs.Prelude.{Bool, true, cond, List, [], ◌∷◌, ◌++◌, ℕ, suc, ◌+◌, ◌/◌, leb, eqb, length, take, replicate, Result, Ok, Err}
 use Rattle.std.proofs.lemmas.List.Edits.{sets}
 use Rattle.limits.specs.Limits.{held_room}
 use Rattle.laws.specs.Fold.{all_of}
 use Rattle.model.specs.declared.State.{State}
 use Rattle.model.specs.Board.{zero_state}
+use Rattle.model.specs.declared.Refusal.{Refusal}
 use Rattle.model.specs.declared.Refusal.TheVariants.{NotSound}
 use Rattle.model.specs.Refusals.{number_of, answer_number, answer_values}
 use Rattle.model.specs.Sound.{sound}
 use Rattle.replaying.specs.declared.Place.{Place}
 use Rattle.replaying.specs.declared.Place.TheVariants.{Before, On, Ended}
-use Rattle.replaying.specs.declared.Taken.{Taken}
-use Rattle.replaying.specs.declared.Taken.TheVariants.{Bytes, Refused}
 use Rattle.replaying.specs.declared.Replaying.{Replaying}
 use Rattle.replaying.specs.declared.Fed.{Fed}
 use Rattle.replaying.specs.declared.Ending.{Ending}
@@ -68,20 +67,17 @@ pub record Feeding : Type 0 where
   pub replay : Replaying
   pub output : List ℕ
 
-unfoldable pub taken_number : Taken → ℕ
-taken_number (Bytes taken printed) = 0
-taken_number (Refused r) = number_of r
-
-unfoldable pub taken_values : Taken → List ℕ
-taken_values (Bytes taken printed) = taken ∷ printed ∷ []
-taken_values (Refused r) = 0 ∷ 0 ∷ []
+unfoldable pub taken_values : Result Fed Refusal → List ℕ
+taken_values (Ok f) = f.taken ∷ f.printed ∷ []
+taken_values (Err r) = 0 ∷ 0 ∷ []
 
 -- how many bytes were printed
-unfoldable pub printed_by : Fed → ℕ
-printed_by f = get_or (taken_values f.taken) 1 0
+unfoldable pub printed_by : Result Fed Refusal → ℕ
+printed_by (Ok f) = f.printed
+printed_by (Err r) = 0
 
-unfoldable pub fed_of : Fed → List ℕ → Feeding
-fed_of f output = record { number = taken_number f.taken; values = taken_values f.taken; replay = f.replay; output = output }
+unfoldable pub fed_of : Result Fed Refusal → Replaying → List ℕ → Feeding
+fed_of r replay output = record { number = answer_number r; values = taken_values r; replay = replay; output = output }
 
 -- of a piece as many bytes are taken as the output surely has room for, at 20 bytes for the answer that a byte may end
 unfoldable pub part_of : List ℕ → List ℕ → List ℕ

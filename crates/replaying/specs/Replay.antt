@@ -1,6 +1,6 @@
 -- Document 01, "Replay": what each line of the input prints and does, and the whole input, byte by byte.
 -- Assumes nothing.
-use Rattle.std.specs.Prelude.{cond, List, [], ◌∷◌, ◌++◌, ℕ, zero, suc, ◌+◌, ◌/◌, ◌%◌, ltb, eqb, get_or, drop}
+use Rattle.std.specs.Prelude.{cond, List, [], ◌∷◌, ◌++◌, ℕ, zero, suc, ◌+◌, ◌/◌, ◌%◌, ltb, eqb, get_or, drop, map, Option, Some, None}
 use Rattle.model.specs.declared.State.{State}
 use Rattle.model.specs.declared.Refusal.TheVariants as refusal
 use Rattle.model.specs.Refusals.{number_of, Outcome}
@@ -8,7 +8,6 @@ use Rattle.model.specs.Calls.{line, advance, read, write, notification, totals, 
 use Rattle.commands.specs.declared.Command.{Command}
 use Rattle.commands.specs.declared.Command.TheVariants.{Make, Line, Advance, Read, Write, Notify, Unreadable}
 use Rattle.commands.specs.declared.Opening.{Opening}
-use Rattle.commands.specs.declared.Opening.TheVariants as opening
 use Rattle.commands.specs.Grammar.{command_of, opening_of}
 
 -- a number in decimal, of at most 20 digits
@@ -58,7 +57,7 @@ silent v = []
 
 -- a line that is not the first: "a later `P` is unreadable"
 unfoldable pub commanded : Command → State → Told
-commanded (Make n c b k) s = record { stand = on s; prints = refused_line (number_of refusal.Unreadable) }
+commanded (Make o) s = record { stand = on s; prints = refused_line (number_of refusal.Unreadable) }
 commanded (Line i v) s = goes_on silent (respond (line i v) s)
 commanded (Advance n) s = goes_on silent (respond (advance n) s)
 commanded (Read off) s = goes_on (value_line 82) (respond (read off) s)
@@ -70,9 +69,8 @@ commanded Unreadable s = record { stand = on s; prints = refused_line (number_of
 unfoldable pub kind_byte : ℕ → ℕ
 kind_byte b = cond (eqb b 108) 0 (cond (eqb b 101) 1 2)
 
-unfoldable pub kind_bytes : List ℕ → List ℕ
-kind_bytes [] = []
-kind_bytes (b ∷ bs) = kind_byte b ∷ kind_bytes bs
+abbrev pub kind_bytes : List ℕ → List ℕ
+kind_bytes letters = map kind_byte letters
 
 -- "a refused or missing first line prints that (11 for empty input) and ends without the last line"
 unfoldable pub started : Outcome → Told
@@ -85,9 +83,9 @@ unfoldable pub bad_start : Told
 bad_start = record { stand = ended; prints = refused_line (number_of refusal.Unreadable) }
 
 -- "`P N C b kinds` must come first (any other first line is unreadable)"
-unfoldable pub first_line : Opening → List ℕ → Told
-first_line (opening.Board n c b k) bytes = started (make n c b (kind_bytes (drop k bytes)))
-first_line opening.Unreadable bytes = bad_start
+unfoldable pub first_line : Option Opening → List ℕ → Told
+first_line (Some o) bytes = started (make o.sources o.contexts o.bits (kind_bytes (drop o.kinds bytes)))
+first_line None bytes = bad_start
 
 unfoldable pub answer : Stand → List ℕ → Told
 answer before bytes = first_line (opening_of (command_of bytes)) bytes

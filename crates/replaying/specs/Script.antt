@@ -1,6 +1,6 @@
 -- A script as the run that it is: its lines, the board that the first of them makes, and the calls that the later ones ask for.
 -- Assumes nothing.
-use Rattle.std.specs.Prelude.{◌≡◌, cond, List, [], ◌∷◌, ◌++◌, ℕ, eqb, drop}
+use Rattle.std.specs.Prelude.{◌≡◌, cond, List, [], ◌∷◌, ◌++◌, ℕ, eqb, drop, Option, Some, None}
 use Rattle.model.specs.declared.State.{State}
 use Rattle.model.specs.declared.Refusal.TheVariants as refusal
 use Rattle.model.specs.Board.{zero_state}
@@ -10,7 +10,6 @@ use Rattle.model.specs.Run.{run, past, Accounted}
 use Rattle.commands.specs.declared.Command.{Command}
 use Rattle.commands.specs.declared.Command.TheVariants.{Make, Line, Advance, Read, Write, Notify, Unreadable}
 use Rattle.commands.specs.declared.Opening.{Opening}
-use Rattle.commands.specs.declared.Opening.TheVariants as opening
 use Rattle.commands.specs.Grammar.{command_of, opening_of}
 use Rattle.replaying.specs.Replay.{Stand, before, on, ended, kind_bytes, fed_all, fresh}
 
@@ -24,7 +23,7 @@ lines_in input = lines_from [] input
 
 -- the call that a line after the first asks for; an unreadable one asks for none, nor does a later `P`
 unfoldable pub call_of : Command → List Call
-call_of (Make n c b k) = []
+call_of (Make o) = []
 call_of (Line i v) = line i v ∷ []
 call_of (Advance n) = advance n ∷ []
 call_of (Read off) = read off ∷ []
@@ -38,9 +37,9 @@ calls_in [] = []
 calls_in (l ∷ ls) = calls_in ls ++ call_of (command_of l)
 
 -- what a first line comes to: "any other first line is unreadable"
-unfoldable pub making_by : Opening → List ℕ → Outcome
-making_by (opening.Board n c b k) bytes = make n c b (kind_bytes (drop k bytes))
-making_by opening.Unreadable bytes = record { number = number_of refusal.Unreadable; values = []; state = zero_state }
+unfoldable pub making_by : Option Opening → List ℕ → Outcome
+making_by (Some o) bytes = make o.sources o.contexts o.bits (kind_bytes (drop o.kinds bytes))
+making_by None bytes = record { number = number_of refusal.Unreadable; values = []; state = zero_state }
 
 unfoldable pub making : List ℕ → Outcome
 making bytes = making_by (opening_of (command_of bytes)) bytes

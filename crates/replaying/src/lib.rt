@@ -7,7 +7,7 @@ mod text;
 
 use limits::HELD_ROOM;
 pub use lines::line_end;
-use model::{Answer, Refusal, State};
+use model::{Refusal, State};
 pub use text::{put_said, put_totals};
 
 // What a line of a script prints: nothing; a letter and a value; or that it is refused, and the number.
@@ -36,22 +36,16 @@ pub struct Replaying {
     pub count: usize,
 }
 
-// What became of a piece of a script: how many bytes of it were taken and how many were printed; or a refusal.
-#[derive(Clone, Copy)]
-pub enum Taken {
-    Bytes(usize, usize),
-    Refused(Refusal),
-}
-
+// What became of a piece of a script: how many bytes of it were taken, and how many were printed.
 #[derive(Clone, Copy)]
 pub struct Fed {
-    pub taken: Taken,
-    pub replay: Replaying,
+    pub taken: usize,
+    pub printed: usize,
 }
 
 // The end of a script: how many bytes it prints, or a refusal; and the bytes, zeros after them.
 #[derive(Clone, Copy)]
 pub struct Ending {
-    pub answer: Answer,
+    pub answer: Result<u32, Refusal>,
     pub bytes: [u8; 160],
 }
