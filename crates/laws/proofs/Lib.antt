@@ -6,4 +6,3 @@ pub mod Once
 pub mod Lists
 pub mod Tables
 pub mod Skips
-pub mod Ranges

@@ -1,16 +1,16 @@
 -- What the arbiter's loops carry: a source's rank as the code reads it, and one more source considered.
 -- Assumes nothing.
 use mathlib.Core.Path.{◌≡◌, ◌∙◌, refl, sym, ap, subst}
-use mathlib.Core.Bool.{Bool, true, false, cond, ◌&&◌, and-true}
+use mathlib.Core.Bool.{Bool, true, false, cond, ◌&&◌, and-true, So}
 use mathlib.Core.Logic.{◌⊎◌, ⊎_elim}
 use Prim.Native.Nat.{ℕ, zero, suc, ◌+◌, ◌≤◌, ◌<◌}
 use native.Mathlib.Nat.{eq-or-lt_of_le}
 use lib.Dec.{leb, ltb}
 use native.Mathlib.Omega.{arith}
 use borrow.Author.Tests.{le-leb, le-ltb}
-use Rattle.std.proofs.lemmas.Bool.{false_from_ne_true, and_left, cond-true}
-use Rattle.laws.specs.Fold.{all_of, best}
-use Rattle.laws.proofs.Fold.{best_is, best_once}
+use Rattle.std.proofs.lemmas.Bool.{false_from_ne_true, both_ways, and_left, cond-true}
+use Rattle.laws.specs.Fold.{all_of, any_to, best}
+use Rattle.laws.proofs.Fold.{any_at, best_is, best_once}
 use Rattle.model.specs.declared.State.{State}
 use Rattle.model.specs.Board.{request, is_source, priority, threshold, enabled}
 use Rattle.model.specs.Waits.{is_pending}
@@ -57,6 +57,10 @@ module _ (s : State) (c i : ℕ) (low : 1 ≤ i) (high : i ≤ s.shape.sources) 
       above : (b : Bool) → (b && ltb limit (priority s.settings i)) ≡ ltb limit (cond b (priority s.settings i) 0)
       above true = refl
       above false = sym (le-ltb limit 0 (omega arith))
+
+  pub rouses_idle : is_pending (request s.requests i) ≡ false → rouses s c i ≡ false
+  unfolding rouses
+  rouses_idle ne = and_left _ _ (pending ∙ and_left _ _ ne)
 
 -- source 0 is none
 module _ (s : State) (c : ℕ) where
@@ -131,3 +135,21 @@ down_best f n i won high e z d = best_once f (suc n)
     lowest : (j : ℕ) → j < won → f j < f won
     lowest zero h = omega (arith, d.worth, d.some h)
     lowest (suc j) h = omega (arith, d.worth, d.lowest (suc j) (omega arith) h)
+
+-- what going down from n has passed above i: none of those sources rouses
+abbrev pub Quiet : (ℕ → Bool) → ℕ → ℕ → Type 0
+Quiet f n i = (j : ℕ) → i < j → j ≤ n → f j ≡ false
+
+-- one more source passed, the one after e
+pub quiet_more : (f : ℕ → Bool) (n i e : ℕ) → Quiet f n i → i ≡ e + 1 → f (e + 1) ≡ false → Quiet f n e
+quiet_more f n i e quiet is none j k h =
+    let more : e + 1 ≤ j = omega arith in
+    ⊎_elim (λ (same : e + 1 ≡ j). subst (λ x. f x ≡ false) same none) (λ l. quiet j (omega arith) h) (eq-or-lt_of_le more)
+
+-- with every source passed none rouses
+pub quiet_all : (f : ℕ → Bool) (n : ℕ) → f 0 ≡ false → Quiet f n 0 → any_to f (suc n) ≡ false
+quiet_all f n zero_not quiet = false_from_ne_true _ (λ t. let at = any_at f (suc n) t in none at.0 at.1 at.2)
+  where
+    none : (j : ℕ) → j < suc n → So (f j) → ⊥
+    none zero h t = both_ways _ zero_not t
+    none (suc j) h t = both_ways _ (quiet (suc j) (omega arith) (omega arith)) t

@@ -17,13 +17,11 @@ pub fn total<const N: usize>(counts: &[u32; N]) -> u64
 }
 
 // The ages still open, of all sources together.
-#[tactic(auto, using(laws::proofs::Fold::sum_more), unfolding(laws::specs::Fold::sum_to, model::specs::Waits::board_open))]
+#[tactic(auto, unfolding(model::specs::Waits::board_open))]
 pub fn open_total(clock: u32, requests: &Requests) -> u64
     ensures { result ≡ board_open clock requests.now }
 {
-    let mut ages: u64 = 0;
-    for i in 0..SOURCE_ROOM {
-        ages += u64::from(open_age(clock, request_of(requests, i)));
-    }
-    ages
+    (0..SOURCE_ROOM)
+        .map(|i| u64::from(open_age(clock, request_of(requests, i))))
+        .sum()
 }

@@ -61,5 +61,5 @@ pub fn reduced(v: u32, bits: u32) -> u8
     requires { bits ≤ most_bits }
     ensures { result ≡ v % 2 ^ bits }
 {
-    (u64::from(v) % power(bits)) as u8
+    low_bits(v, bits) as u8
 }

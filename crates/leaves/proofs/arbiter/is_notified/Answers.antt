@@ -1,20 +1,37 @@
-use Rattle.std.proofs.Common.{◌∙◌, sym, refl, arith, rules, ◌+◌, ℕ}
-use borrow.Author.Tests.{tests}
-use lib.Dec.{ltb}
-use Rattle.std.proofs.lemmas.Iterator.{YieldsList-from_range}
-use Rattle.std.proofs.lemmas.Iterator.Search.{any_from_yields_List}
-use Rattle.laws.proofs.Ranges.{any_from_one}
+-- `arbiter::is_notified` meets its contract: the sources from the last to the first.
+-- Assumes nothing.
+use Rattle.std.proofs.Common.{◌∙◌, sym, ap, ltb, ◌-◌, ◌+◌, arith}
+use borrow.Author.Tests.{lt-ltb, le-ltb}
 use Rattle.model.specs.Board.{threshold}
 use Rattle.model.specs.Life.{rouses, notified}
-use Rattle.leaves.proofs.Ranks.{read_rank, rouses_read, rouses_zero}
+use Rattle.laws.proofs.Fold.{any_of}
+use Rattle.leaves.proofs.Ranks.{rouses_read, rouses_idle, rouses_zero, quiet_more, quiet_all}
 use Rattle.leaves.proofs.arbiter.is_notified.Goals as goal
+use Rattle.leaves.proofs.arbiter.is_notified.Goals.{else-is_pending-via-then-is_pending+else-threshold-rank_of, else-is_pending-via-else-is_pending}
+
+pub loop-i-init : goal.loop-i-init
+loop-i-init c = λ j h k. absurd (omega arith)
+
+pub returns-then-threshold-rank_of : goal.returns-then-threshold-rank_of
+unfolding notified threshold
+returns-then-threshold-rank_of c =
+    let s = c.args.state.now in
+    let read = rouses_read s c.args.c (c.loop-i.i - 1 + 1) (omega arith) (omega arith) in
+    let above = ap (ltb (threshold s.settings c.args.c)) (sym c.rank_of.ensures) ∙ lt-ltb _ _ c.if-threshold-rank_of.true in
+    sym (any_of (rouses s c.args.c) _ (c.loop-i.i - 1 + 1) (omega arith) (read ∙ above))
+
+pub loop-i-preserved : goal.loop-i-preserved
+unfolding threshold
+loop-i-preserved c =
+    let s = c.args.state.now in
+    let read = rouses_read s c.args.c (c.loop-i.i - 1 + 1) (omega arith) (omega arith) in
+    quiet_more (rouses s c.args.c) _ _ (c.loop-i.i - 1) c.loop-i.invariant (omega arith)
+    (elim c.else-is_pending.branch [
+      | else-is_pending-via-then-is_pending+else-threshold-rank_of w ↦
+          read ∙ ap (ltb (threshold s.settings c.args.c)) (sym w.rank_of.ensures) ∙ le-ltb _ _ w.if-threshold-rank_of.false
+      | else-is_pending-via-else-is_pending w ↦ rouses_idle s c.args.c _ (omega arith) (omega arith) (sym c.is_pending.ensures ∙ w.if-is_pending.false)
+    ])
 
 pub returns : goal.returns
-unfolding notified threshold
-returns c =
-    let s = c.args.state.now in
-    let n : ℕ = s.shape.sources in
-    any_from_yields_List (λ i. ltb (threshold s.settings c.args.c) (read_rank s c.args.c (i + 1))) _ _ c.any.result c.any.ensures.ran
-    (YieldsList-from_range 0 n n refl (omega arith))
-    (λ x b q k. search (rules, tests))
-    ∙ any_from_one (rouses s c.args.c) (λ i. ltb (threshold s.settings c.args.c) (read_rank s c.args.c i)) n (λ i low high. sym (rouses_read s c.args.c i low high)) (rouses_zero s c.args.c)
+unfolding notified
+returns c = sym (quiet_all (rouses c.args.state.now c.args.c) _ (rouses_zero c.args.state.now c.args.c) (λ j h k. c.loop-i.invariant j (omega arith) k))
