@@ -5,7 +5,7 @@ use mathlib.Core.Path.{◌≡◌, ◌∙◌, refl, sym, ap}
 use mathlib.Core.Bool.{Bool, true, false, cond, So}
 use mathlib.Core.List.{List, [], ◌∷◌, ◌++◌, append_assoc, append-nil}
 use mathlib.Core.Logic.{⊎_elim}
-use Prim.Native.Nat.{ℕ, zero, suc, ◌+◌, ◌<◌}
+use Prim.Native.Nat.{ℕ, suc, ◌+◌, ◌<◌}
 use native.Mathlib.Nat.{zero-add, suc-add, suc_inj, suc-ne-zero}
 use native.Mathlib.Omega.{arith}
 use lib.Dec.{leb, eqb}
@@ -98,17 +98,6 @@ line_whole (b ∷ bs) = by_cases (eqb b 10) refl (line_whole bs)
         line_length (take (cond t 0 (suc (line_length bs))) (b ∷ bs)) ≡ length (take (cond t 0 (suc (line_length bs))) (b ∷ bs))
     by_cases true e ih = refl
     by_cases false e ih = ap (λ (t : Bool). cond t 0 (suc (line_length (take (line_length bs) bs)))) e ∙ ap suc ih
-
-pub line_drop : (n : ℕ) (l : List ℕ) → line_length l ≡ length l → line_length (drop n l) ≡ length (drop n l)
-unfolding line_length
-line_drop zero l e = e
-line_drop (suc n) [] e = refl
-line_drop (suc n) (b ∷ bs) e = by_cases (eqb b 10) e (line_drop n bs)
-  where
-    by_cases : (t : Bool) → cond t 0 (suc (line_length bs)) ≡ suc (length bs) → (line_length bs ≡ length bs → line_length (drop n bs) ≡ length (drop n bs)) →
-        line_length (drop n bs) ≡ length (drop n bs)
-    by_cases true e ih = absurd (suc-ne-zero (length bs) (sym e))
-    by_cases false e ih = ih (suc_inj e)
 
 pub feeds_none : (l : List ℕ) → line_length l ≡ length l → line_feeds l ≡ 0
 unfolding line_length line_feeds
