@@ -1,11 +1,10 @@
 -- The digits of a number and how many there are; and text written part by part.
 -- Assumes nothing.
-use Rattle.std.proofs.Common.{◌≡◌, ◌∙◌, refl, sym, ap, subst, ℕ, ◌+◌, ◌*◌, ◌^◌, ◌≤◌, ◌<◌, List, [], ◌∷◌, ◌++◌, length, get_or, take, drop, set, length-append, append_assoc, take-append-drop, pow-suc, ⊎_elim, drop-drop, take-suc, length-take-le, add-one, arith, lit≤, lt-ltb, le-ltb, le-leb, decimal}
+use Rattle.std.proofs.Common.{◌≡◌, ◌∙◌, refl, sym, ap, ℕ, ◌+◌, ◌*◌, ◌^◌, ◌≤◌, ◌<◌, List, [], ◌∷◌, ◌++◌, length, get_or, take, drop, set, length-append, append_assoc, take-append-drop, pow-suc, ⊎_elim, drop-drop, take-suc, length-take-le, add-one, arith, lit≤, lt-ltb, le-ltb, le-leb, decimal}
 use Rattle.std.proofs.Math.Nat.{pow-le-pow_right}
 use Rattle.std.proofs.Math.Seq.{length-sets}
 use Rattle.std.proofs.lemmas.Bool.{lt-leb, cases_lt}
 use Rattle.std.proofs.lemmas.List.Edits.{sets, sets-eq}
-use Rattle.std.proofs.lemmas.Grind.{common_steps}
 use Rattle.std.proofs.lemmas.Fmt.{decimal_from_appends, decimal_is_IsNumeral, length-decimal-le}
 use Rattle.std.proofs.lemmas.Int.Digits.{digits_value-lt}
 use borrow.Rule.Slice.PartMut.{put_mid}
@@ -28,8 +27,6 @@ digits_narrow n h = let small : n < 2 ^ 64 = omega arith in omega (arith, ap len
 
 pub digits_wide : (n : ℕ) → n < 2 ^ 64 → length (digits n) ≤ 20
 digits_wide n h = omega (arith, ap length (digits_are n h), length-decimal-le 20 n (omega arith) (omega (arith, h)) h)
-
-pub ruleset narrow_steps = (common_steps, digits_narrow)
 
 -- how many there are, by the power of ten that the number reaches
 pub width_one : (n : ℕ) → n < 10 → length (digits n) ≡ 1
@@ -61,12 +58,6 @@ written_then {l} {at = at} {xs = xs} {ys = ys} v w = record {
   bytes = w.bytes ∙ (λ i. sets (v.bytes i) (v.place i) ys) ∙ sym (sets_append l at xs ys);
   place = omega (arith, v.place, w.place, length-append xs ys);
 }
-
--- a line: a word, a number as the code widens it, and a line feed
-pub written_line : {l mid out word : List ℕ} {at place end n m : ℕ} → Written l mid at place word → n ≡ m → Written mid out place end (digits n) →
-    Written l (set out end 10) at (end + 1) (word ++ (digits m ++ (10 ∷ [])))
-written_line {mid = mid} {out} {place = place} {end} v e w =
-    written_then v (written_then (subst (λ (k : ℕ). Written mid out place end (digits k)) e w) (record { bytes = refl; place = refl }))
 
 -- text stored from a place on, with the bytes before it and those after it as they were
 pub written_at : (l out text : List ℕ) (at end : ℕ) → end ≡ at + length text → end ≤ length l → take at out ≡ take at l →
