@@ -1,12 +1,11 @@
 // The first line of a script: the board that it asks for.
-ghost use Rattle.std.specs.Prelude.{◌≡◌, ◌≤◌, length, take, drop};
+ghost use Rattle.std.specs.Prelude.{◌≡◌, ◌≤◌, length, drop};
 ghost use Rattle.limits.specs.Limits.{held_room};
 ghost use Rattle.model.specs.Refusals.{answered};
 ghost use Rattle.commands.specs.Grammar.{command_of, opening_of};
 ghost use Rattle.replaying.specs.Replay.{kind_byte, kind_bytes, started, first_line};
 
-use crate::buffer::Buffer;
-use limits::HELD_ROOM;
+use crate::buffer::Held;
 use model::{Answered, Kind, Refusal};
 
 // A kind's letter as its byte.
@@ -21,18 +20,16 @@ fn kind_byte(letter: u8) -> u8
     }
 }
 
-// The kinds of a first line, from a place on, as bytes.
-fn kind_bytes(line: &[u8], from: usize) -> Buffer
-    requires { length line.now ≤ held_room }
-    ensures { (take result.count result.bytes ≡ kind_bytes (drop from line.now)) × (result.count ≤ held_room) }
+// The kinds of a first line as bytes.
+fn kind_bytes(letters: &[u8]) -> Held
+    requires { length letters.now ≤ held_room }
+    ensures { result.items ≡ kind_bytes letters.now }
 {
-    let mut bytes = [0u8; HELD_ROOM];
-    let mut count = 0;
-    for i in from..line.len() {
-        bytes[count] = kind_byte(line[i]);
-        count += 1;
+    let mut kinds = Held::new();
+    for letter in letters {
+        kinds.push(kind_byte(*letter));
     }
-    Buffer { bytes, count }
+    kinds
 }
 
 // The board that a first line asks for, or its refusal.
@@ -42,8 +39,8 @@ pub(crate) fn open_board(line: &[u8]) -> Answered
 {
     match commands::parse_opening(line) {
         Some(asked) => {
-            let kinds = kind_bytes(line, asked.kinds);
-            plic::make(asked.sources, asked.contexts, asked.bits, kinds.held())
+            let kinds = kind_bytes(line.get(asked.kinds..).unwrap_or(&[]));
+            plic::make(asked.sources, asked.contexts, asked.bits, kinds.as_slice())
         }
         None => Answered {
             answer: Err(Refusal::Unreadable),

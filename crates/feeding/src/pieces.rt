@@ -1,7 +1,6 @@
 // Feeding a replay: a piece of a script, as lent bytes, taken to the replay that is held, and what it prints put into lent bytes.
 ghost use Rattle.std.specs.Prelude.{◌≡◌, [], ◌*◌, ◌≤◌, length};
 ghost use Rattle.std.proofs.Math.Bool.{So};
-ghost use Rattle.limits.specs.Limits.{held_room};
 ghost use Rattle.replaying.specs.Replay.{before, on};
 ghost use Rattle.replaying.specs.Pieces.{line_length, begun_at, shown, paused, fit, printed_by, fed_of, feeding};
 ghost use Rattle.feeding.specs.Engine.{Feeds};
@@ -19,7 +18,7 @@ use steps::Board;
 
 // A piece on a board, after the bytes of the line that has begun.
 fn feed_board(board: Board, begun: &[u8], input: &[u8], output: &mut [u8]) -> Progress
-    requires { (length begun.now ≤ held_room) × (line_length begun.now ≡ length begun.now) × (20 * length input.now ≤ length output.old) }
+    requires { (line_length begun.now ≡ length begun.now) × (20 * length input.now ≤ length output.old) }
     ensures { Feeds (begun_at (on board.state) begun.now) input.now output.old output.new 0 result }
 {
     if begun.is_empty() {
@@ -30,7 +29,7 @@ fn feed_board(board: Board, begun: &[u8], input: &[u8], output: &mut [u8]) -> Pr
         return standing(Place::On, board.state, begun, input, 0);
     }
     let line = with_line_feed(begun, &input[..end]);
-    let first = feed_lines(board, line.held(), output, 0);
+    let first = feed_lines(board, line.as_slice(), output, 0);
     let board = Board {
         state: first.replay.state,
     };
@@ -39,7 +38,7 @@ fn feed_board(board: Board, begun: &[u8], input: &[u8], output: &mut [u8]) -> Pr
 
 // A piece before the end of the first line.
 fn feed_first(begun: &[u8], input: &[u8], output: &mut [u8]) -> Progress
-    requires { (length begun.now ≤ held_room) × (20 * length input.now ≤ length output.old) }
+    requires { 20 * length input.now ≤ length output.old }
     ensures { Feeds (begun_at before begun.now) input.now output.old output.new 0 result }
 {
     let end = line_end(input, 0);
@@ -47,7 +46,7 @@ fn feed_first(begun: &[u8], input: &[u8], output: &mut [u8]) -> Progress
         return standing(Place::Before, plic::zero(), begun, input, 0);
     }
     let line = joined(begun, &input[..end]);
-    let made = open_board(line.held());
+    let made = open_board(line.as_slice());
     match made.answer {
         Ok(_) => {
             let board = Board { state: made.state };

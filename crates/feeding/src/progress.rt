@@ -5,7 +5,7 @@ ghost use Rattle.model.specs.Board.{zero_state};
 ghost use Rattle.replaying.specs.Replay.{ended};
 ghost use Rattle.replaying.specs.Pieces.{padded, paused};
 
-use crate::buffer::{Buffer, joined};
+use crate::buffer::{joined, with_zeros};
 use limits::HELD_ROOM;
 use model::State;
 use replaying::{Place, Replaying};
@@ -18,6 +18,7 @@ pub(crate) struct Progress {
 }
 
 // A replay that stands somewhere, with a line begun, in two parts.
+#[tactic(auto, unfolding(replaying::specs::Pieces::padded))]
 pub(crate) fn standing(
     place: Place,
     state: State,
@@ -25,7 +26,6 @@ pub(crate) fn standing(
     more: &[u8],
     written: usize,
 ) -> Progress
-    requires { length first.now ≤ held_room }
     ensures { result ≡ record {
       replay = record {
         place = place;
@@ -37,13 +37,13 @@ pub(crate) fn standing(
       written = written;
     } }
 {
-    let Buffer { bytes, count } = joined(first, more);
+    let line = joined(first, more);
     Progress {
         replay: Replaying {
             place,
             state,
-            begun: bytes,
-            count,
+            begun: with_zeros(&line),
+            count: line.len(),
         },
         written,
     }

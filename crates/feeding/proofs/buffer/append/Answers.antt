@@ -1,15 +1,17 @@
-use Rattle.std.proofs.Common.{◌∙◌, ap, arith, ℕ, ◌+◌, ◌-◌, List, length, take}
-use lib.Seq.{sets, length-take-le}
-use Rattle.laws.proofs.Lists.{sets_part, take_most}
+use Rattle.std.proofs.Common.{◌≡◌, ◌∙◌, sym, ap, arith, ℕ, ◌+◌, ◌++◌, length, take}
+use lib.Seq.{take-append-add, length-take-le}
+use Rattle.laws.proofs.Lists.{take_most}
 use Rattle.limits.specs.Limits.{held_room}
+use Rattle.feeding.proofs.Rooms.{on_ok}
 use Rattle.feeding.proofs.buffer.append.Goals as goal
 
-pub returns-clause-bytes : goal.returns-clause-bytes
-returns-clause-bytes c =
-    let a = c.args in
-    let n : ℕ = c.min-n.result in
-    let more : List ℕ = a.more.now in
-    let is = c.copy_from_slice.ensures.after in
-    let long = ap length is ∙ length-take-le n more (omega arith) in
-    sets_part a.bytes.now a.held (a.held + n - a.held) c.copy_from_slice.new.self (omega (arith, long)) (omega arith)
-    ∙ ap (sets a.bytes.now a.held) (is ∙ ap (λ (k : ℕ). take k more) c.min-n.ensures ∙ take_most (held_room - a.held) more)
+pub returns : goal.returns
+returns c =
+    let line = c.args.line.now.items in
+    let more = c.args.more.now in
+    let room : ℕ = c.remaining_capacity.result in
+    let long = length-take-le c.min-n.result more (omega arith) in
+    let whole : held_room ≡ length line + room = omega arith in
+    on_ok c.try_extend_from_slice.result (c.try_extend_from_slice.ensures.variant.1 (omega (arith, long))) c.try_extend_from_slice.ensures.ok
+    ∙ ap (λ k. line ++ take k more) c.min-n.ensures ∙ ap (λ k. line ++ k) (take_most room more)
+    ∙ sym (ap (λ n. take n (line ++ more)) whole ∙ take-append-add line more room)

@@ -12,12 +12,12 @@ use Rattle.feeding.proofs.Parts.{feeds_begun, begun_line, stand_in_line, one_fee
 use Rattle.feeding.proofs.pieces.feed_board.Goals as goal
 
 -- a line that has begun, ended by its line feed, is one line
-one : (begun input bytes : List ℕ) (count end : ℕ) → line_length begun ≡ length begun → end ≡ 0 + line_length (drop 0 input) →
-    take count bytes ≡ stand_in (begun ++ take end input) ++ (10 ∷ []) → line_feeds (take count bytes) ≡ 1
-one begun input bytes count end whole is e = ap line_feeds e ∙ one_feed _ (stand_in_line _ (begun_line begun input end whole is))
+one : (begun input line : List ℕ) (end : ℕ) → line_length begun ≡ length begun → end ≡ 0 + line_length (drop 0 input) →
+    line ≡ stand_in (begun ++ take end input) ++ (10 ∷ []) → line_feeds line ≡ 1
+one begun input line end whole is e = ap line_feeds e ∙ one_feed _ (stand_in_line _ (begun_line begun input end whole is))
 
 pub feed_lines-requires : goal.feed_lines-requires
-feed_lines-requires c = omega (arith, c.requires.2, feeds_most c.args.input.now)
+feed_lines-requires c = omega (arith, c.requires.1, feeds_most c.args.input.now)
 
 pub returns-then-end-input : goal.returns-then-end-input
 unfolding paused
@@ -36,9 +36,8 @@ slice_bounds-with_line_feed-end c =
 
 pub feed_lines-first-requires : goal.feed_lines-first-requires
 feed_lines-first-requires c =
-    let line = c.with_line_feed-line in
-    let is = one c.args.begun.now c.args.input.now line.result.bytes line.result.count _ c.requires.1 c.line_end-end.ensures line.ensures.0 in
-    omega (arith, c.requires.2, ended c.args.input.now _ c.line_end-end.ensures c.if-end-input.false, ap line_feeds c.held.ensures, is)
+    let is = one c.args.begun.now c.args.input.now _ _ c.requires.0 c.line_end-end.ensures (c.as_slice.ensures.value ∙ c.with_line_feed-line.ensures) in
+    omega (arith, c.requires.1, ended c.args.input.now _ c.line_end-end.ensures c.if-end-input.false, is)
 
 pub overflow_add-end : goal.overflow_add-end
 overflow_add-end c = omega (arith, ended c.args.input.now _ c.line_end-end.ensures c.if-end-input.false, c.well_formed.1.1.0)
@@ -55,15 +54,14 @@ feed_lines-requires-2 c =
     let from = c.line_end-end.result + 1 in
     let rest = take (length input - from) (drop from input) in
     let first = c.feed_lines-first.ensures in
-    let line = c.with_line_feed-line in
+    let is = c.as_slice.ensures.value ∙ c.with_line_feed-line.ensures in
     let short = min-le_left (length input - from) (length (drop from input)) in
     omega (
       arith,
-      c.requires.2,
+      c.requires.1,
       ended input _ c.line_end-end.ensures c.if-end-input.false,
       first.answers,
-      ap line_feeds c.held.ensures,
-      one c.args.begun.now input line.result.bytes line.result.count _ c.requires.1 c.line_end-end.ensures line.ensures.0,
+      one c.args.begun.now input _ _ c.requires.0 c.line_end-end.ensures is,
       feeds_most rest,
       length-take (length input - from) (drop from input),
       short,
@@ -76,6 +74,6 @@ returns c =
     let first = c.feed_lines-first in
     let rest = c.feed_lines-2 in
     feeds_board a.board.state a.begun.now a.input.now a.output.now first.new.output rest.new.output _ c.line_end-end.result
-    first.result rest.result c.requires.1 c.line_end-end.ensures c.if-end-input.false
-    (c.held.ensures ∙ c.with_line_feed-line.ensures.0)
+    first.result rest.result c.requires.0 c.line_end-end.ensures c.if-end-input.false
+    (c.as_slice.ensures.value ∙ c.with_line_feed-line.ensures)
     first.ensures rest.ensures.feeds

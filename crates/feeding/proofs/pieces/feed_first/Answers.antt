@@ -11,7 +11,6 @@ use Rattle.replaying.specs.Text.{said_bytes, Written}
 use Rattle.replaying.specs.Pieces.{line_length, padded, paused}
 use Rattle.replaying.proofs.Print.{written_put}
 use Rattle.replaying.proofs.Ends.{line_most, feeds_most}
-use Rattle.feeding.proofs.Rooms.{joined_cut, joined_room}
 use Rattle.feeding.proofs.FirstLines.{told_made, told_unmade, made_is_sound}
 use Rattle.feeding.proofs.Parts.{feeds_begun, feeds_made, feeds_unmade}
 use Rattle.feeding.proofs.pieces.feed_first.Goals as goal
@@ -32,9 +31,6 @@ pub slice_bounds-joined-end : goal.slice_bounds-joined-end
 slice_bounds-joined-end c =
     sym (length-take-le c.line_end-end.result c.args.input.now (omega (arith, c.line_end-end.ensures, line_most c.args.input.now)))
 
-pub held-requires : goal.held-requires
-held-requires c = (joined_room _ c.joined-line.result c.joined-line.ensures).0
-
 pub overflow_add-end : goal.overflow_add-end
 overflow_add-end c = omega (arith, ended c.args.input.now _ c.line_end-end.ensures c.if-end-input.false, c.well_formed.1.0)
 
@@ -47,7 +43,7 @@ slice_bounds-feed_lines-start c = ended c.args.input.now _ c.line_end-end.ensure
 pub invariant_of-board : goal.invariant_of-board
 invariant_of-board c = record {
   sound = made_is_sound (c.args.begun.now ++ take c.line_end-end.result c.args.input.now) _ c.open_board-made.result
-      (c.held.ensures ∙ joined_cut _ c.joined-line.result c.joined-line.ensures) c.open_board-made.ensures _ c.in-Ok.is;
+      (c.as_slice.ensures.value ∙ c.joined-line.ensures) c.open_board-made.ensures _ c.in-Ok.is;
 }
 
 pub feed_lines-requires : goal.feed_lines-requires
@@ -56,7 +52,7 @@ feed_lines-requires c =
     let from = c.line_end-end.result + 1 in
     omega (
       arith,
-      c.requires.1,
+      c.requires,
       feeds_most (take (length input - from) (drop from input)),
       length-take (length input - from) (drop from input),
       min-le_left (length input - from) (length (drop from input)),
@@ -68,7 +64,7 @@ returns-in-Ok c =
     feeds_made a.begun.now a.input.now a.output.now c.line_end-end.result c.open_board-made.result c.feed_lines.result c.line_end-end.ensures
     c.if-end-input.false c.feed_lines.new.output
     (told_made (a.begun.now ++ take c.line_end-end.result a.input.now) _ c.open_board-made.result
-    (c.held.ensures ∙ joined_cut _ c.joined-line.result c.joined-line.ensures) c.open_board-made.ensures _ c.in-Ok.is)
+    (c.as_slice.ensures.value ∙ c.joined-line.ensures) c.open_board-made.ensures _ c.in-Ok.is)
     c.feed_lines.ensures.feeds
 
 pub returns-in-Err : goal.returns-in-Err
@@ -76,11 +72,11 @@ unfolding said_bytes
 returns-in-Err c =
     let a = c.args in
     let room : 0 + 20 ≤ length a.output.now =
-    omega (arith, c.requires.1, ended a.input.now _ c.line_end-end.ensures c.if-end-input.false) in
+    omega (arith, c.requires, ended a.input.now _ c.line_end-end.ensures c.if-end-input.false) in
     let out = written_put 20 _ a.output.now c.put_said.new.output 0 c.put_said.result room c.put_said.ensures.0 in
     feeds_unmade a.begun.now a.input.now a.output.now c.line_end-end.result c.open_board-made.result c.at_end.result c.line_end-end.ensures
     c.if-end-input.false c.put_said.new.output c.put_said.result (number_of c.in-Err.why)
     (told_unmade (a.begun.now ++ take c.line_end-end.result a.input.now) _ c.open_board-made.result
-    (c.held.ensures ∙ joined_cut _ c.joined-line.result c.joined-line.ensures) c.open_board-made.ensures c.in-Err.why c.in-Err.is)
+    (c.as_slice.ensures.value ∙ c.joined-line.ensures) c.open_board-made.ensures c.in-Err.why c.in-Err.is)
     (subst (λ (n : ℕ). Written a.output.now c.put_said.new.output 0 c.put_said.result (refused_line n)) c.number_of.ensures out)
     (omega (arith, c.put_said.ensures.1)) c.at_end.ensures

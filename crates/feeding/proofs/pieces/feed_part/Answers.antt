@@ -31,7 +31,7 @@ feed_board-requires c =
     let r = c.args.replay.now in
     let facts = fit_facts r c.requires.0 in
     let long : length (take r.count r.begun) ≡ r.count = length-take-le r.count r.begun (omega (arith, facts.0)) in
-    (omega (arith, long, facts.0), facts.1 ∙ sym long, c.requires.1)
+    (facts.1 ∙ sym long, c.requires.1)
 
 pub returns-in-Before : goal.returns-in-Before
 unfolding stand_of
