@@ -1,6 +1,6 @@
 -- Where a line ends, looked for eight bytes a turn: the bytes of a turn, and what the first line feed among them says.
 -- Assumes nothing.
-use Rattle.std.proofs.Common.{◌≡◌, ◌∙◌, refl, sym, ap, ℕ, zero, suc, ◌+◌, ◌*◌, ◌<◌, ◌≤◌, ◌==◌, Bool, true, false, cond, List, [], ◌∷◌, ◌++◌, Option, Some, None, position, eqb, length, get_or, take, drop, take-append-drop, drop-drop, length-take-le, length-drop, suc-mul, zero-mul, one-add, ltb, le_of_suc-le-suc, not-suc-le-zero, ltb-true, ltb-false, arith}
+use Rattle.std.proofs.Common.{◌≡◌, ◌∙◌, refl, sym, ap, ℕ, zero, suc, ◌+◌, ◌*◌, ◌<◌, ◌≤◌, ◌==◌, Bool, true, false, cond, List, [], ◌∷◌, ◌++◌, Some, None, position, eqb, length, get_or, take, drop, take-append-drop, drop-drop, length-take-le, length-drop, suc-mul, zero-mul, one-add, ltb, le_of_suc-le-suc, not-suc-le-zero, ltb-true, ltb-false, arith}
 use Rattle.std.specs.Option.{unwrap_or}
 use Rattle.std.specs.List.{position_or_len}
 use Rattle.std.specs.Simd.{first_chunks}

@@ -5,15 +5,15 @@ use mathlib.Core.Path.{◌≡◌, ◌∙◌, refl, sym, ap}
 use mathlib.Core.Bool.{Bool, true, false, cond, So}
 use mathlib.Core.List.{List, [], ◌∷◌, ◌++◌, append_assoc, append-nil}
 use mathlib.Core.Logic.{⊎_elim}
-use Prim.Native.Nat.{ℕ, zero, suc, ◌+◌, ◌<◌}
+use Prim.Native.Nat.{ℕ, suc, ◌+◌, ◌<◌}
 use native.Mathlib.Nat.{zero-add, suc-add, suc_inj, suc-ne-zero}
 use native.Mathlib.Omega.{arith}
 use lib.Dec.{leb, eqb}
 use lib.ListN.{length, take, drop, take-append-drop}
 use lib.Seq.{take-length, length-take-le, take_all}
 use borrow.Author.Tests.{lt-ltb, leb-true, leb-false}
+use Rattle.std.proofs.lemmas.Bool.{cond-true, cases_Bool}
 use Rattle.limits.specs.Limits.{line_room, held_room}
-use Rattle.laws.proofs.Truth.{cond_so, dichotomy}
 use Rattle.commands.specs.Grammar.{command_of, opening_of}
 use Rattle.commands.specs.declared.Command.{Command}
 use Rattle.commands.specs.declared.Command.TheVariants.{Unreadable}
@@ -99,17 +99,6 @@ line_whole (b ∷ bs) = by_cases (eqb b 10) refl (line_whole bs)
     by_cases true e ih = refl
     by_cases false e ih = ap (λ (t : Bool). cond t 0 (suc (line_length (take (line_length bs) bs)))) e ∙ ap suc ih
 
-pub line_drop : (n : ℕ) (l : List ℕ) → line_length l ≡ length l → line_length (drop n l) ≡ length (drop n l)
-unfolding line_length
-line_drop zero l e = e
-line_drop (suc n) [] e = refl
-line_drop (suc n) (b ∷ bs) e = by_cases (eqb b 10) e (line_drop n bs)
-  where
-    by_cases : (t : Bool) → cond t 0 (suc (line_length bs)) ≡ suc (length bs) → (line_length bs ≡ length bs → line_length (drop n bs) ≡ length (drop n bs)) →
-        line_length (drop n bs) ≡ length (drop n bs)
-    by_cases true e ih = absurd (suc-ne-zero (length bs) (sym e))
-    by_cases false e ih = ih (suc_inj e)
-
 pub feeds_none : (l : List ℕ) → line_length l ≡ length l → line_feeds l ≡ 0
 unfolding line_length line_feeds
 feeds_none [] e = refl
@@ -122,7 +111,7 @@ feeds_none (b ∷ bs) e = by_cases (eqb b 10) e (feeds_none bs)
 -- a line that is too long
 pub too_long : (l : List ℕ) → line_room < length l → command_of l ≡ Unreadable
 unfolding command_of
-too_long l h = cond_so _ _ (lt-ltb line_room (length l) h)
+too_long l h = cond-true _ _ _ (lt-ltb line_room (length l) h)
 
 pub unreadable_answer : (p : Stand) (l m : List ℕ) → command_of l ≡ Unreadable → command_of m ≡ Unreadable → answer p l ≡ answer p m
 unfolding answer first_line opening_of
@@ -136,4 +125,4 @@ cut_answer p l = ⊎_elim
     (λ t.
     let long = leb-false (length l) held_room t in
     unreadable_answer p (take held_room l) l (too_long (take held_room l) (omega (arith, length-take-le held_room l (omega (arith, long))))) (too_long l (omega (arith, long))))
-    (dichotomy (leb (length l) held_room))
+    (cases_Bool (leb (length l) held_room))

@@ -1,6 +1,6 @@
-use Rattle.std.proofs.Common.{◌≡◌, ◌∙◌, ap, [], ◌+◌, ◌*◌, ◌/◌, take, drop, length, get_or, position, ◌==◌, arith}
+use Rattle.std.proofs.Common.{◌≡◌, ◌∙◌, ap, [], ◌+◌, ◌*◌, take, drop, get_or, position, ◌==◌, arith}
 use Rattle.std.proofs.lemmas.Grind.{common_steps}
-use Rattle.replaying.proofs.Eights.{eight_steps, turn_found, chunk_at}
+use Rattle.replaying.proofs.Eights.{turn_found, chunk_at}
 use Rattle.replaying.proofs.lines.line_end.Goals as goal
 
 pub returns-in-Some-feed_in : goal.returns-in-Some-feed_in

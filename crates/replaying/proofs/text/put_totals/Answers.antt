@@ -27,8 +27,14 @@ put_number-third-requires c =
     let first = c.put_number-first.ensures in
     let second = c.put_number-second.ensures in
     omega (
-      arith, first.place, written_length first, digits_wide c.args.clock (omega arith),
-      second.place, written_length second, digits_wide c.args.claims (omega arith), digits_wide c.args.waited (omega arith),
+      arith,
+      first.place,
+      written_length first,
+      digits_wide c.args.clock (omega arith),
+      second.place,
+      written_length second,
+      digits_wide c.args.claims (omega arith),
+      digits_wide c.args.waited (omega arith),
     )
 
 pub put_line-requires : goal.put_line-requires
@@ -37,9 +43,17 @@ put_line-requires c =
     let second = c.put_number-second.ensures in
     let third = c.put_number-third.ensures in
     omega (
-      arith, first.place, written_length first, digits_wide c.args.clock (omega arith),
-      second.place, written_length second, digits_wide c.args.claims (omega arith),
-      third.place, written_length third, digits_wide c.args.waited (omega arith), digits_wide c.args.ages (omega arith),
+      arith,
+      first.place,
+      written_length first,
+      digits_wide c.args.clock (omega arith),
+      second.place,
+      written_length second,
+      digits_wide c.args.claims (omega arith),
+      third.place,
+      written_length third,
+      digits_wide c.args.waited (omega arith),
+      digits_wide c.args.ages (omega arith),
     )
 
 pub returns : goal.returns
