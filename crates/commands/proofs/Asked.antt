@@ -1,14 +1,14 @@
 -- What the words after a line's letter ask for, word by word: nothing, where one is not of its form, or what they all ask for.
 -- Assumes nothing.
 use Rattle.std.proofs.Common.{◌≡◌, ◌∙◌, refl, sym, ap, ℕ, ◌+◌, ◌-◌, Bool, true, false, List, Option, Some, None, option_map, length, drop, length-drop, ⊎_elim, arith}
+use Rattle.std.proofs.lemmas.Bool.{cond-true, cond-false}
 use Rattle.std.specs.Bool.{then_some}
-use Rattle.laws.proofs.Truth.{cond_so, cond_not}
 use Rattle.commands.specs.declared.Opening.{Opening}
 use Rattle.commands.specs.declared.Command.TheVariants.{Line, Write}
 use Rattle.commands.specs.declared.scan.Word.{Word}
 use Rattle.commands.specs.Grammar.{is_number, decimal, no_needless_zero, is_offset, hex, is_byte, is_kinds, words}
 use Rattle.commands.specs.Leaves.{number_at, offset_at, valued, ended, last_word, write_of, level_of, line_of, kinds_of, make_of}
-use Rattle.commands.proofs.Words.{cond_same, value_none, value_next}
+use Rattle.commands.proofs.Words.{value_none, value_next}
 use Rattle.commands.proofs.Last.{one_or_more, kinds_alone, kinds_all, kinds_some}
 
 -- the first word is missing
@@ -58,11 +58,11 @@ unfolding kinds_of ended opening
 kinds_last l at n c b true h =
     let place : length l - length (drop at l) ≡ at = omega (arith, kinds_some (drop at l) (sym h), length-drop at l) in
     sym (ap (kinds_of (length l) n c b) (kinds_alone (drop at l) (kinds_all (drop at l) (sym h)))
-    ∙ cond_so (Some (opening n c b (length l - length (drop at l)))) None (sym h)
+    ∙ cond-true _ (Some (opening n c b (length l - length (drop at l)))) None (sym h)
     ∙ ap (λ (k : ℕ). Some (opening n c b k)) place)
 kinds_last l at n c b false h = sym (⊎_elim
-    (λ e. ap (kinds_of (length l) n c b) e ∙ cond_not (Some (opening n c b (length l - length (drop at l)))) None (sym h))
-    (λ e. ap (kinds_of (length l) n c b) e.3 ∙ cond_same (is_kinds e.0) None)
+    (λ e. ap (kinds_of (length l) n c b) e ∙ cond-false _ (Some (opening n c b (length l - length (drop at l)))) None (sym h))
+    (λ e. grind (arith, ap (kinds_of (length l) n c b) e.3))
     (one_or_more (drop at l)))
 
 -- .. after N and C, and after N

@@ -3,12 +3,11 @@
 use Rattle.std.proofs.Common.{◌≡◌, ◌∙◌, refl, sym, ap, ℕ, suc, ◌+◌, ◌-◌, ◌*◌, ◌^◌, ◌≤◌, ◌<◌, Bool, true, false, not, cond, ◌&&◌, List, [], ◌∷◌, Option, Some, None, length-drop, eqb, leb, ltb, length, get_or, drop, drop-cons, drop_of_length-le, lt-ltb, le-ltb, ⊎_elim, lit≤, pow-suc, arith, add-zero, zero-add, add-one, le-leb, leb-true, ne_eqb, eqb-true}
 use Rattle.std.proofs.Math.Bool.{So}
 use Rattle.std.proofs.Math.Nat.{pow-le-pow_right}
-use Rattle.std.proofs.lemmas.Bool.{lt-leb, cases_lt}
+use Rattle.std.proofs.lemmas.Bool.{lt-leb, cases_lt, and_from, both_ways, false_from_ne_true, cond-true, cond-false, and_parts, and_left, and_right}
 use Rattle.std.proofs.lemmas.Grind.{common_steps}
 use Rattle.std.proofs.lemmas.Option.{cond_some}
 use Rattle.std.specs.Char.{IsAsciiDigit, IsNotAsciiDigit}
 use Rattle.std.specs.List.{list_all}
-use Rattle.laws.proofs.Truth.{and_intro, not_so, so_not, cond_so, cond_not, and_left, and_right, and_fails_left, and_fails_right}
 use Rattle.commands.specs.declared.scan.Word.{Word}
 use Rattle.commands.specs.Grammar.{is_digit, is_hex_digit, hex_digit, no_needless_zero, decimal_from, decimal, is_number, hex_from, hex, is_offset}
 use Rattle.commands.specs.Leaves.{first_word, value_of, number_at, offset_at, ends_with, number_rest, hex_worth}
@@ -21,24 +20,24 @@ found v e = Some (record { value = v; end = e })
 -- a word is of no form
 not_of : (form : List ℕ → Bool) (value : List ℕ → ℕ) (l : List ℕ) (at : ℕ) → form (first_word l) ≡ false → value_of form value l at ≡ None
 unfolding value_of
-not_of form value l at h = cond_not _ _ h
+not_of form value l at h = cond-false _ _ _ h
 
 -- a byte that is no space is the first of the word
 value_more : (form : List ℕ → Bool) (value : List ℕ → ℕ) (b : ℕ) (bs : List ℕ) (at : ℕ) → eqb b 32 ≡ false →
     value_of form value (b ∷ bs) at ≡ value_of (λ w. form (b ∷ w)) (λ w. value (b ∷ w)) bs (at + 1)
 unfolding value_of first_word
 value_more form value b bs at h =
-    ap (λ (w : List ℕ). cond (form w) (found (value w) (at + length w)) None) (cond_not [] (b ∷ first_word bs) h)
+    ap (λ (w : List ℕ). cond (form w) (found (value w) (at + length w)) None) (cond-false _ [] (b ∷ first_word bs) h)
     ∙ ap (λ (e : ℕ). cond (form (b ∷ first_word bs)) (found (value (b ∷ first_word bs)) e) None) (omega arith)
 
 digit_bounds : (b : ℕ) → So (is_digit b) → (48 ≤ b) × (b ≤ 57)
-digit_bounds b h = (leb-true 48 b (and_left (leb 48 b) (leb b 57) h), leb-true b 57 (and_right (leb 48 b) (leb b 57) h))
+digit_bounds b h = (leb-true 48 b (and_parts (leb 48 b) (leb b 57) h).0, leb-true b 57 (and_parts (leb 48 b) (leb b 57) h).1)
 
 is_digit_so : (b : ℕ) → IsAsciiDigit b → So (is_digit b)
-is_digit_so b h = and_intro (le-leb 48 b h.0) (le-leb b 57 h.1)
+is_digit_so b h = and_from _ _ (le-leb 48 b h.0) (le-leb b 57 h.1)
 
 is_digit_not : (b : ℕ) → IsNotAsciiDigit b → is_digit b ≡ false
-is_digit_not b h = ⊎_elim (λ (k : b < 48). and_fails_left (leb b 57) (lt-leb 48 b k)) (λ (k : 57 < b). and_fails_right (leb 48 b) (lt-leb b 57 k)) h
+is_digit_not b h = ⊎_elim (λ (k : b < 48). and_left _ (leb b 57) (lt-leb 48 b k)) (λ (k : 57 < b). and_right (leb 48 b) _ (lt-leb b 57 k)) h
 
 digit_no_space : (b : ℕ) → So (is_digit b) → eqb b 32 ≡ false
 digit_no_space b h = ne_eqb b 32 (omega (arith, digit_bounds b h))
@@ -68,7 +67,7 @@ module _ (v : ℕ) (l : List ℕ) (i : ℕ) (h : i < length l) where
   number_past d past =
       digit_first (is_digit_so (get_or l i 0) d)
       ∙ not_of _ _ (drop (i + 1) l) (i + 1)
-      (and_fails_right (list_all is_digit (first_word (drop (i + 1) l))) (lt-leb _ _ (omega (arith, decimal_grows (first_word (drop (i + 1) l)) (v * 10 + (get_or l i 0 - 48))))))
+      (and_right (list_all is_digit (first_word (drop (i + 1) l))) _ (lt-leb _ _ (omega (arith, decimal_grows (first_word (drop (i + 1) l)) (v * 10 + (get_or l i 0 - 48))))))
 
 -- .. and any other byte, or none
 number_stops : (v b : ℕ) (bs : List ℕ) (at : ℕ) → v ≤ 4294967295 → is_digit b ≡ false → number_rest v (b ∷ bs) at ≡ ends_with v (b ∷ bs) at
@@ -78,12 +77,12 @@ number_stops v b bs at h d = by_cases (eqb b 32)
     by_cases : (t : Bool) → let w : List ℕ = cond t [] (b ∷ first_word bs) in
         cond (list_all is_digit w && leb (decimal_from v w) 4294967295) (found (decimal_from v w) (at + length w)) None
         ≡ cond t (found v at) None
-    by_cases true = cond_so _ _ (le-leb v 4294967295 h) ∙ ap (λ (e : ℕ). found v e) (add-zero at)
-    by_cases false = cond_not _ _ (and_fails_left _ (and_fails_left _ d))
+    by_cases true = cond-true _ _ _ (le-leb v 4294967295 h) ∙ ap (λ (e : ℕ). found v e) (add-zero at)
+    by_cases false = cond-false _ _ _ (and_left _ _ (and_left _ _ d))
 
 number_ends : (v at : ℕ) → v ≤ 4294967295 → number_rest v [] at ≡ ends_with v [] at
 unfolding number_rest value_of first_word ends_with decimal_from
-number_ends v at h = cond_so _ _ (le-leb v 4294967295 h) ∙ ap (λ (e : ℕ). found v e) (add-zero at)
+number_ends v at h = cond-true _ _ _ (le-leb v 4294967295 h) ∙ ap (λ (e : ℕ). found v e) (add-zero at)
 
 pub number_end : (v : ℕ) (l : List ℕ) (i : ℕ) → v ≤ 4294967295 → length l ≤ i → number_rest v (drop i l) i ≡ ends_with v (drop i l) i
 number_end v l i h k =
@@ -132,7 +131,7 @@ module _ (l : List ℕ) (at : ℕ) (h : at < length l) where
       by_cases true = refl
       by_cases false =
           let w = get_or l at 0 ∷ first_word (drop (at + 1) l) in
-          and_fails_left (leb (decimal w) 4294967295) (and_fails_right (no_needless_zero w) (and_fails_left (list_all is_digit (first_word (drop (at + 1) l))) (is_digit_not _ d)))
+          and_left _ (leb (decimal w) 4294967295) (and_right (no_needless_zero w) _ (and_left _ (list_all is_digit (first_word (drop (at + 1) l))) (is_digit_not _ d)))
 
   -- .. a zero, which must end the word, ..
   pub number_zero : get_or l at 0 ≡ 48 → number_at l at ≡ ends_with 0 (drop (at + 1) l) (at + 1)
@@ -161,7 +160,7 @@ space_not : is_hex_digit 32 ≡ false
 space_not = refl
 
 hex_no_space : (b : ℕ) → So (is_hex_digit b) → eqb b 32 ≡ false
-hex_no_space b h = so_not (eqb b 32) (λ e. not_so space_not (sym (ap is_hex_digit (eqb-true b 32 e)) ∙ h))
+hex_no_space b h = false_from_ne_true (eqb b 32) (λ e. both_ways _ space_not (sym (ap is_hex_digit (eqb-true b 32 e)) ∙ h))
 
 -- what is left of the offset at a place, of which j digits are read and worth v: all of it, ..
 unfoldable pub offset_left : List ℕ → ℕ → ℕ → ℕ → Option Word
@@ -177,7 +176,7 @@ pub offset_short : (l : List ℕ) (at : ℕ) → length l < at + 8 → offset_at
 unfolding is_offset
 offset_short l at h =
     not_of is_offset hex (drop at l) at
-    (and_fails_left (list_all is_hex_digit (first_word (drop at l))) (ne_eqb _ _ (omega (arith, first_length (drop at l), length-drop at l))))
+    (and_left _ (list_all is_hex_digit (first_word (drop at l))) (ne_eqb _ _ (omega (arith, first_length (drop at l), length-drop at l))))
 
 module _ (l : List ℕ) (at j v : ℕ) (h : at + j < length l) where
   abbrev byte : ℕ
@@ -213,8 +212,8 @@ module _ (l : List ℕ) (at j v : ℕ) (h : at + j < length l) where
       no_digit false e = refl
 
       by_cases : (t : Bool) → let w : List ℕ = cond t [] (byte ∷ first_word (drop (at + (j + 1)) l)) in (eqb (j + length w) 8 && list_all is_hex_digit w) ≡ false
-      by_cases true = and_fails_left true (ne_eqb (j + 0) 8 (omega arith))
-      by_cases false = and_fails_right (eqb (j + suc (length (first_word (drop (at + (j + 1)) l)))) 8) (and_fails_left _ (no_digit (is_hex_digit byte) e))
+      by_cases true = and_left _ true (ne_eqb (j + 0) 8 (omega arith))
+      by_cases false = and_right (eqb (j + suc (length (first_word (drop (at + (j + 1)) l)))) 8) _ (and_left _ _ (no_digit (is_hex_digit byte) e))
 
 -- .. and the end of the word
 rest_ends : (v : ℕ) (l : List ℕ) (at : ℕ) → value_of (λ w. eqb (8 + length w) 8 && list_all is_hex_digit w) (hex_from v) l at ≡ ends_with v l at
@@ -225,7 +224,7 @@ rest_ends v (b ∷ bs) at = by_cases (eqb b 32)
     by_cases : (t : Bool) → let w : List ℕ = cond t [] (b ∷ first_word bs) in
         cond (eqb (8 + length w) 8 && list_all is_hex_digit w) (found (hex_from v w) (at + length w)) None ≡ cond t (found v at) None
     by_cases true = ap (λ (e : ℕ). found v e) (add-zero at)
-    by_cases false = cond_not _ _ (and_fails_left (list_all is_hex_digit (b ∷ first_word bs)) (ne_eqb (8 + suc (length (first_word bs))) 8 (omega arith)))
+    by_cases false = cond-false _ _ _ (and_left _ (list_all is_hex_digit (b ∷ first_word bs)) (ne_eqb (8 + suc (length (first_word bs))) 8 (omega arith)))
 
 pub offset_ends : (l : List ℕ) (at v : ℕ) → offset_left l at 8 v ≡ ends_with v (drop (at + 8) l) (at + 8)
 unfolding offset_left
@@ -245,6 +244,6 @@ pub ends_at : (v : ℕ) (l : List ℕ) (at : ℕ) →
     ends_with v (drop at l) at ≡ cond (ltb at (length l)) (cond (eqb (get_or l at 0) 32) (found v at) None) (found v at)
 unfolding ends_with
 ends_at v l at = ⊎_elim
-    (λ (h : at < length l). ap (λ (m : List ℕ). ends_with v m at) (drop-cons l at 0 h) ∙ sym (cond_so _ _ (lt-ltb _ _ h)))
-    (λ (h : length l ≤ at). ap (λ (m : List ℕ). ends_with v m at) (drop_of_length-le l h) ∙ sym (cond_not _ _ (le-ltb _ _ h)))
+    (λ (h : at < length l). ap (λ (m : List ℕ). ends_with v m at) (drop-cons l at 0 h) ∙ sym (cond-true _ _ _ (lt-ltb _ _ h)))
+    (λ (h : length l ≤ at). ap (λ (m : List ℕ). ends_with v m at) (drop_of_length-le l h) ∙ sym (cond-false _ _ _ (le-ltb _ _ h)))
     (cases_lt at (length l))

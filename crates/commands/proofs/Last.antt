@@ -2,12 +2,12 @@
 -- Assumes nothing.
 use Rattle.std.proofs.Common.{◌≡◌, ◌∙◌, sym, ap, ℕ, ◌+◌, ◌-◌, ◌≤◌, ◌<◌, Bool, true, false, List, [], ◌∷◌, length, take, take_all, drop, length-drop, arith, ap, refl, subst, inl, inr, ◌⊎◌, add-zero, get_or-drop, ⊎_elim, eqb, cond, eq-eqb, ne_eqb, eqb-true, Option, Some, None, get_or, drop-cons, drop_of_length-le}
 use Rattle.std.proofs.Math.Bool.{So}
+use Rattle.std.proofs.lemmas.Bool.{both_ways, false_from_ne_true, and_parts, cases_Bool, cond-false}
 use Rattle.std.specs.List.{list_all}
 use Rattle.std.proofs.lemmas.Grind.{common_steps}
-use Rattle.laws.proofs.Truth.{not_so, so_not, and_left, and_right, dichotomy, cond_not}
 use Rattle.commands.specs.Grammar.{is_byte, join_first, words, is_kind, is_kinds}
 use Rattle.commands.specs.Leaves.{first_word, ended, level_of}
-use Rattle.commands.proofs.Words.{cond_same, words_after, words_first}
+use Rattle.commands.proofs.Words.{words_after, words_first}
 
 -- the level: one byte, the last of the line
 
@@ -15,8 +15,8 @@ level_one : (x : ℕ) → level_of (words (x ∷ [])) ≡ cond (eqb x 48) (Some 
 unfolding words join_first level_of is_byte ended
 level_one x = ⊎_elim
     (λ t. subst (λ (y : ℕ). level_of (words (y ∷ [])) ≡ cond (eqb y 48) (Some false) (cond (eqb y 49) (Some true) None)) (sym (eqb-true x 32 t)) refl)
-    (λ t. ap level_of (cond_not ([] ∷ [] ∷ []) ((x ∷ []) ∷ []) t))
-    (dichotomy (eqb x 32))
+    (λ t. ap level_of (cond-false _ ([] ∷ [] ∷ []) ((x ∷ []) ∷ []) t))
+    (cases_Bool (eqb x 32))
 
 level_more : (x y : ℕ) (m : List ℕ) → level_of (words (x ∷ y ∷ m)) ≡ None
 unfolding words join_first level_of is_byte ended
@@ -26,7 +26,7 @@ level_more x y m = by_cases (words m) (words_first m) (eqb x 32) (eqb y 32)
         level_of (cond t ([] ∷ cond u ([] ∷ ws) (join_first y ws)) (join_first x (cond u ([] ∷ ws) (join_first y ws)))) ≡ None
     by_cases [] e t u = cc
     by_cases (w ∷ ws) e true u = refl
-    by_cases (w ∷ ws) e false true = simp cond_same
+    by_cases (w ∷ ws) e false true = grind arith
     by_cases (w ∷ ws) e false false = refl
 
 level_none : level_of (words []) ≡ None
@@ -73,23 +73,23 @@ one_or_more (b ∷ bs) = by_cases (eqb b 32) (one_or_more bs)
     by_cases false (inr e) = inr (b ∷ e.0, e.1, e.2, ap (join_first b) e.3)
 
 kind_no_space : (b : ℕ) → So (is_kind b) → eqb b 32 ≡ false
-kind_no_space b h = so_not (eqb b 32) (λ e. not_so refl (subst (λ (x : ℕ). So (is_kind x)) (eqb-true b 32 e) h))
+kind_no_space b h = false_from_ne_true (eqb b 32) (λ e. both_ways _ refl (subst (λ (x : ℕ). So (is_kind x)) (eqb-true b 32 e) h))
 
 pub kinds_alone : (l : List ℕ) → So (list_all is_kind l) → words l ≡ l ∷ []
 unfolding words join_first
 kinds_alone [] h = refl
 kinds_alone (b ∷ bs) h =
-    cond_not ([] ∷ words bs) (join_first b (words bs)) (kind_no_space b (and_left (is_kind b) (list_all is_kind bs) h))
-    ∙ ap (join_first b) (kinds_alone bs (and_right (is_kind b) (list_all is_kind bs) h))
+    cond-false _ ([] ∷ words bs) (join_first b (words bs)) (kind_no_space b (and_parts (is_kind b) (list_all is_kind bs) h).0)
+    ∙ ap (join_first b) (kinds_alone bs (and_parts (is_kind b) (list_all is_kind bs) h).1)
 
 pub kinds_all : (l : List ℕ) → So (is_kinds l) → So (list_all is_kind l)
 unfolding is_kinds
-kinds_all [] h = absurd (not_so refl h)
+kinds_all [] h = absurd (both_ways _ refl h)
 kinds_all (b ∷ bs) h = h
 
 pub kinds_some : (l : List ℕ) → So (is_kinds l) → 0 < length l
 unfolding is_kinds
-kinds_some [] h = absurd (not_so refl h)
+kinds_some [] h = absurd (both_ways _ refl h)
 kinds_some (b ∷ bs) h = omega arith
 
 -- kinds, of a byte or more, are letters of kinds and no more is asked

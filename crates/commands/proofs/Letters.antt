@@ -1,15 +1,14 @@
 -- The laws of a line's first word: each letter has its form, and any other word has none; and what a line asks for by its letter.
 -- Assumes nothing.
-use Rattle.std.proofs.Common.{◌≡◌, ◌∙◌, refl, sym, ap, ℕ, ◌-◌, ◌<◌, Bool, true, false, cond, ◌&&◌, List, [], ◌∷◌, Option, Some, None, option_map, eqb, leb, ltb, length, drop, arith, ne_eqb, leb-true, leb-false, le-leb, lt-ltb, le-ltb}
+use Rattle.std.proofs.Common.{◌≡◌, ◌∙◌, refl, sym, ap, ℕ, ◌<◌, Bool, true, false, cond, ◌&&◌, List, [], ◌∷◌, Option, Some, None, option_map, eqb, leb, ltb, length, drop, arith, ne_eqb, leb-true, leb-false, le-leb, lt-ltb, le-ltb}
 use Rattle.std.proofs.Math.Bool.{So}
+use Rattle.std.proofs.lemmas.Bool.{both_ways, cond-true, cond-false, cond_both}
 use Rattle.limits.specs.Limits.{line_room}
-use Rattle.laws.proofs.Truth.{not_so, cond_so, cond_not, cond_elim, cond_ap}
 use Rattle.commands.specs.declared.Command.{Command}
 use Rattle.commands.specs.declared.Opening.{Opening}
 use Rattle.commands.specs.declared.Command.TheVariants.{Make, Line, Advance, Read, Write, Notify, Unreadable}
-use Rattle.commands.specs.Grammar.{is_number, decimal, is_offset, hex, is_byte, is_kinds, join_first, words, of_two, of_three, of_five, of_words, command_of}
+use Rattle.commands.specs.Grammar.{is_number, decimal, is_offset, hex, is_byte, join_first, words, of_two, of_three, of_five, of_words, command_of}
 use Rattle.commands.specs.Leaves.{valued, ended, last_word, write_of, level_of, line_of, kinds_of, make_of, letter_of, read_as}
-use Rattle.commands.proofs.Words.{cond_same}
 
 -- the words after a letter that takes one
 module _ (x : ℕ) (form : List ℕ → Bool) (value : List ℕ → ℕ) (k : ℕ → Command)
@@ -18,11 +17,11 @@ module _ (x : ℕ) (form : List ℕ → Bool) (value : List ℕ → ℕ) (k : �
   after_one : (long : ℕ) (ws : List (List ℕ)) → of_words long ((x ∷ []) ∷ ws) ≡ read_as (option_map k (last_word form value ws))
   unfolding of_words of_three of_five is_byte last_word valued ended
   after_one long [] = refl
-  after_one long (a ∷ []) = two a ∙ sym (cond_ap (λ o. read_as (option_map k o)) (form a) (Some (value a)) None)
-  after_one long (a ∷ b ∷ []) = simp (not-l, not-w, cond_same)
-  after_one long (a ∷ b ∷ c ∷ []) = simp cond_same
-  after_one long (a ∷ b ∷ c ∷ d ∷ []) = simp (not-p, cond_same)
-  after_one long (a ∷ b ∷ c ∷ d ∷ e ∷ ws) = simp cond_same
+  after_one long (a ∷ []) = grind (arith, two a)
+  after_one long (a ∷ b ∷ []) = grind (arith, not-l, not-w)
+  after_one long (a ∷ b ∷ c ∷ []) = grind arith
+  after_one long (a ∷ b ∷ c ∷ d ∷ []) = grind (arith, not-p)
+  after_one long (a ∷ b ∷ c ∷ d ∷ e ∷ ws) = grind arith
 
 pub of_advance : (long : ℕ) (ws : List (List ℕ)) → of_words long ((84 ∷ []) ∷ ws) ≡ read_as (option_map Advance (last_word is_number decimal ws))
 unfolding of_two is_byte
@@ -44,61 +43,34 @@ module _ (x : ℕ) (form : List ℕ → Bool) (value : List ℕ → ℕ) (f : �
   after_two : (long : ℕ) (ws : List (List ℕ)) → of_words long ((x ∷ []) ∷ ws) ≡ read_as (valued form value f ws)
   unfolding of_words of_two of_five is_byte valued
   after_two long [] = refl
-  after_two long (a ∷ []) = simp (not_t, not-r, not-n, none, cond_same)
-  after_two long (a ∷ b ∷ []) = three a b ∙ sym (cond_ap read_as (form a) (f (value a) (b ∷ [])) None)
-  after_two long (a ∷ b ∷ c ∷ []) = simp (more, cond_same)
-  after_two long (a ∷ b ∷ c ∷ d ∷ []) = simp (not-p, more, cond_same)
-  after_two long (a ∷ b ∷ c ∷ d ∷ e ∷ ws) = simp (more, cond_same)
-
--- one test after another
-both : (t u : Bool) (k : Command) → cond (t && u) k Unreadable ≡ cond t (read_as (cond u (Some k) None)) Unreadable
-both true u k = sym (cond_ap read_as u (Some k) None)
-both false u k = refl
-
-either : (t u v : Bool) (k j : Command) →
-    cond (t && u) k (cond (t && v) j Unreadable) ≡ cond t (read_as (cond u (Some k) (cond v (Some j) None))) Unreadable
-either true true v k j = refl
-either true false v k j = sym (cond_ap read_as v (Some j) None)
-either false u v k j = refl
+  after_two long (a ∷ []) = grind (arith, not_t, not-r, not-n, none)
+  after_two long (a ∷ b ∷ []) = grind (arith, three a b)
+  after_two long (a ∷ b ∷ c ∷ []) = grind (arith, more)
+  after_two long (a ∷ b ∷ c ∷ d ∷ []) = grind (arith, not-p, more)
+  after_two long (a ∷ b ∷ c ∷ d ∷ e ∷ ws) = grind (arith, more)
 
 pub of_line : (long : ℕ) (ws : List (List ℕ)) → of_words long ((76 ∷ []) ∷ ws) ≡ read_as (line_of ws)
 unfolding line_of level_of of_three is_byte ended
 of_line =
     after_two 76 is_number decimal (λ s ws. option_map (Line s) (level_of ws))
-    (λ a b. either (is_number a) (is_byte 48 b) (is_byte 49 b) (Line (decimal a) false) (Line (decimal a) true)
-    ∙ sym (ap (λ o. cond (is_number a) (read_as o) Unreadable) (mapped (decimal a) (is_byte 48 b) (is_byte 49 b))))
-    (λ n. refl) (λ n b c ws. simp cond_same) refl refl refl refl
-  where
-    mapped : (s : ℕ) (t u : Bool) →
-        option_map (Line s) (cond t (Some false) (cond u (Some true) None)) ≡ cond t (Some (Line s false)) (cond u (Some (Line s true)) None)
-    mapped s true u = refl
-    mapped s false true = refl
-    mapped s false false = refl
+    (λ a b. grind arith)
+    (λ n. refl) (λ n b c ws. grind arith) refl refl refl refl
 
 pub of_write : (long : ℕ) (ws : List (List ℕ)) → of_words long ((87 ∷ []) ∷ ws) ≡ read_as (write_of ws)
 unfolding write_of last_word valued of_three is_byte ended
 of_write =
     after_two 87 is_offset hex (λ off ws. option_map (Write off) (last_word is_number decimal ws))
-    (λ a b. both (is_offset a) (is_number b) (Write (hex a) (decimal b))
-    ∙ ap (λ o. cond (is_offset a) (read_as o) Unreadable) (sym (cond_ap (option_map (Write (hex a))) (is_number b) (Some (decimal b)) None)))
-    (λ n. refl) (λ n b c ws. simp cond_same) refl refl refl refl
+    (λ a b. grind arith)
+    (λ n. refl) (λ n b c ws. grind arith) refl refl refl refl
 
 pub of_make : (long : ℕ) (ws : List (List ℕ)) → of_words long ((80 ∷ []) ∷ ws) ≡ read_as (option_map Make (make_of long ws))
 unfolding make_of kinds_of valued of_words of_two of_three of_five is_byte ended
 of_make long [] = refl
-of_make long (n ∷ []) = simp cond_same
-of_make long (n ∷ c ∷ []) = simp cond_same
-of_make long (n ∷ c ∷ b ∷ []) = simp cond_same
-of_make long (n ∷ c ∷ b ∷ k ∷ []) = five (is_number n) (is_number c) (is_number b) (is_kinds k)
-  where
-    five : (t u v w : Bool) → cond (t && u && v && w) (Make (record { sources = decimal n; contexts = decimal c; bits = decimal b; kinds = long - length k })) Unreadable
-        ≡ read_as (option_map Make (cond t (cond u (cond v (cond w (Some (record { sources = decimal n; contexts = decimal c; bits = decimal b; kinds = long - length k })) None) None) None) None))
-    five true true true true = refl
-    five true true true false = refl
-    five true true false w = refl
-    five true false v w = refl
-    five false u v w = refl
-of_make long (n ∷ c ∷ b ∷ k ∷ e ∷ ws) = simp cond_same
+of_make long (n ∷ []) = grind arith
+of_make long (n ∷ c ∷ []) = grind arith
+of_make long (n ∷ c ∷ b ∷ []) = grind arith
+of_make long (n ∷ c ∷ b ∷ k ∷ []) = grind arith
+of_make long (n ∷ c ∷ b ∷ k ∷ e ∷ ws) = grind arith
 
 -- a first word that is no letter of a form
 module _ (w : List ℕ)
@@ -134,7 +106,7 @@ two_first long x y l = by_cases (eqb x 32) (eqb y 32) (words l)
   where
     by_cases : (t u : Bool) (ws : List (List ℕ)) → of_words long (cond t ([] ∷ cond u ([] ∷ ws) (join_first y ws)) (join_first x (cond u ([] ∷ ws) (join_first y ws))))
         ≡ cond u (cond t Unreadable (of_words long ((x ∷ []) ∷ ws))) Unreadable
-    by_cases true u ws = empty_first long (cond u ([] ∷ ws) (join_first y ws)) ∙ sym (cond_same u Unreadable)
+    by_cases true u ws = grind (arith, empty_first long (cond u ([] ∷ ws) (join_first y ws)))
     by_cases false true ws = refl
     by_cases false false [] = long_first long x y [] []
     by_cases false false (w ∷ ws) = long_first long x y w ws
@@ -142,7 +114,7 @@ two_first long x y l = by_cases (eqb x 32) (eqb y 32) (words l)
 few_first : (long : ℕ) (l : List ℕ) → length l < 2 → of_words long (words l) ≡ Unreadable
 unfolding of_words words join_first
 few_first long [] h = refl
-few_first long (x ∷ []) h = cond_elim (λ (ws : List (List ℕ)). of_words long ws ≡ Unreadable) (eqb x 32) (λ _. empty_first long ([] ∷ [])) (λ _. refl)
+few_first long (x ∷ []) h = cond_both (eqb x 32) _ _ (λ (ws : List (List ℕ)). of_words long ws ≡ Unreadable) (λ _. empty_first long ([] ∷ [])) (λ _. refl)
 few_first long (x ∷ y ∷ l) h = absurd (omega arith)
 
 pub command_is : (l : List ℕ) → command_of l ≡ asked l (letter_of l)
@@ -158,15 +130,15 @@ command_is (x ∷ y ∷ l) = by_cases (leb (length m) line_room) refl
         cond u (cond (eqb x 32) Unreadable (of_words (length m) ((x ∷ []) ∷ words l))) Unreadable ≡ asked m (cond (true && t && u) (Some x) None)
     spaced true true h = refl
     spaced true false h = refl
-    spaced false u h = absurd (not_so refl h)
+    spaced false u h = absurd (both_ways _ refl h)
 
     by_cases : (t : Bool) → leb (length m) line_room ≡ t →
         cond (ltb line_room (length m)) Unreadable (of_words (length m) (words m)) ≡ asked m (cond (t && leb 2 (length m) && eqb y 32) (Some x) None)
     by_cases true h =
-        cond_not _ _ (le-ltb line_room (length m) (leb-true (length m) line_room h))
+        cond-false _ _ _ (le-ltb line_room (length m) (leb-true (length m) line_room h))
         ∙ two_first (length m) x y l
         ∙ spaced (leb 2 (length m)) (eqb y 32) (le-leb 2 (length m) (omega arith))
-    by_cases false h = cond_so _ _ (lt-ltb line_room (length m) (leb-false (length m) line_room h))
+    by_cases false h = cond-true _ _ _ (lt-ltb line_room (length m) (leb-false (length m) line_room h))
 
 -- none of the six letters
 abbrev pub Unlettered : ℕ → Type 0
@@ -188,10 +160,8 @@ module _ (l : List ℕ) where
   pub other_told : {x : ℕ} → Some x ≡ letter_of l → Unlettered x → Unreadable ≡ command_of l
   unfolding asked is_byte
   other_told {x} e r =
-      sym (ap (cond (eqb x 32) Unreadable)
-      (no_letter (x ∷ []) (ne_eqb _ _ r.1) (ne_eqb _ _ r.2) (ne_eqb _ _ r.4) (ne_eqb _ _ r.0) (ne_eqb _ _ r.3) (ne_eqb _ _ r.5) (length l) after)
-      ∙ cond_same (eqb x 32) Unreadable)
-      ∙ told x e refl
+      let none = no_letter (x ∷ []) (ne_eqb _ _ r.1) (ne_eqb _ _ r.2) (ne_eqb _ _ r.4) (ne_eqb _ _ r.0) (ne_eqb _ _ r.3) (ne_eqb _ _ r.5) (length l) after in
+      grind (arith, none, told x e refl)
 
   -- .. and each of these, with what its form asks for
   module _ {x : ℕ} (e : Some x ≡ letter_of l) where

@@ -1,13 +1,11 @@
 -- What a script's first line asks for: by the letter P a board, and by any other nothing.
 -- Assumes nothing.
-use Rattle.std.proofs.Common.{◌≡◌, ◌∙◌, refl, sym, ap, ℕ, false, cond, List, [], ◌∷◌, Option, Some, None, option_map, eqb, length, drop, ne_eqb}
+use Rattle.std.proofs.Common.{◌≡◌, ◌∙◌, refl, sym, ap, ℕ, false, List, [], ◌∷◌, Option, Some, None, option_map, length, drop, ne_eqb, arith}
 use Rattle.std.proofs.lemmas.Option.{same_Some}
-use Rattle.laws.proofs.Truth.{cond_ap}
 use Rattle.commands.specs.declared.Command.TheVariants.{Make}
 use Rattle.commands.specs.declared.Opening.{Opening}
 use Rattle.commands.specs.Grammar.{is_byte, words, of_two, of_three, of_five, of_words, command_of, opening_of}
 use Rattle.commands.specs.Leaves.{make_of, letter_of, read_as}
-use Rattle.commands.proofs.Words.{cond_same}
 use Rattle.commands.proofs.Letters.{of_make, asked, command_is, none_told}
 
 -- the form of a first word that is not P opens nothing
@@ -15,8 +13,8 @@ module _ (w : List ℕ) (not-p : is_byte 80 w ≡ false) where
   others_open_not : (long : ℕ) (ws : List (List ℕ)) → opening_of (of_words long (w ∷ ws)) ≡ None
   unfolding opening_of of_words of_two of_three of_five
   others_open_not long [] = refl
-  others_open_not long (a ∷ []) = simp (cond_ap opening_of, cond_same)
-  others_open_not long (a ∷ b ∷ []) = simp (cond_ap opening_of, cond_same)
+  others_open_not long (a ∷ []) = grind arith
+  others_open_not long (a ∷ b ∷ []) = grind arith
   others_open_not long (a ∷ b ∷ c ∷ []) = refl
   others_open_not long (a ∷ b ∷ c ∷ d ∷ []) = simp not-p
   others_open_not long (a ∷ b ∷ c ∷ d ∷ e ∷ ws) = refl
@@ -44,10 +42,7 @@ module _ (l : List ℕ) where
     where
       by_letter : (o : Option ℕ) → (o ≡ Some 80 → ⊥) → opening_of (asked l o) ≡ None
       by_letter None h = refl
-      by_letter (Some x) h =
-          cond_ap opening_of (eqb x 32) _ _
-          ∙ ap (cond (eqb x 32) None) (others_open_not (x ∷ []) (ne_eqb _ _ (λ e. h (ap Some e))) (length l) (words (drop 2 l)))
-          ∙ cond_same (eqb x 32) None
+      by_letter (Some x) h = grind (arith, others_open_not (x ∷ []) (ne_eqb _ _ (λ e. h (ap Some e))) (length l) (words (drop 2 l)))
 
   pub opening_not : {x : ℕ} → Some x ≡ letter_of l → (x ≡ 80 → ⊥) → None ≡ opening_of (command_of l)
   opening_not {x} e h = sym (opening_other (λ p. h (same_Some x 80 (e ∙ p))))

@@ -2,9 +2,9 @@
 -- Assumes nothing.
 use Rattle.std.proofs.Common.{◌≡◌, ◌∙◌, refl, sym, ap, subst, ℕ, zero, suc, ◌+◌, ◌-◌, ◌≤◌, ◌<◌, Bool, true, false, cond, ◌&&◌, ◌⊎◌, inl, inr, List, [], ◌∷◌, ◌++◌, eqb, ltb, length, get_or, drop, length-append, length-drop, drop_at, get_or-drop, not-suc-le-zero, le_of_suc-le-suc, arith}
 use Rattle.std.proofs.Math.Bool.{So}
+use Rattle.std.proofs.lemmas.Bool.{both_ways, cond_both, and_parts}
 use Rattle.std.specs.List.{list_all}
 use Rattle.limits.specs.Limits.{line_room}
-use Rattle.laws.proofs.Truth.{not_so, cond_elim, and_left, and_right}
 use Rattle.commands.specs.declared.Command.{Command}
 use Rattle.commands.specs.declared.Command.TheVariants.{Make, Line, Advance, Read, Write, Notify, Unreadable}
 use Rattle.commands.specs.declared.Opening.{Opening}
@@ -46,20 +46,20 @@ is_make Unreadable = false
 
 two_not : (w a : List ℕ) → is_make (of_two w a) ≡ false
 unfolding of_two is_make
-two_not w a = cond_elim (λ k. is_make k ≡ false) (is_byte 84 w && is_number a) (λ _. refl)
-    (λ _. cond_elim (λ k. is_make k ≡ false) (is_byte 82 w && is_offset a) (λ _. refl)
-    (λ _. cond_elim (λ k. is_make k ≡ false) (is_byte 78 w && is_number a) (λ _. refl) (λ _. refl)))
+two_not w a = cond_both (is_byte 84 w && is_number a) _ _ (λ k. is_make k ≡ false) (λ _. refl)
+    (λ _. cond_both (is_byte 82 w && is_offset a) _ _ (λ k. is_make k ≡ false) (λ _. refl)
+    (λ _. cond_both (is_byte 78 w && is_number a) _ _ (λ k. is_make k ≡ false) (λ _. refl) (λ _. refl)))
 
 three_not : (w a b : List ℕ) → is_make (of_three w a b) ≡ false
 unfolding of_three is_make
-three_not w a b = cond_elim (λ k. is_make k ≡ false) (is_byte 76 w && is_number a && is_byte 48 b) (λ _. refl)
-    (λ _. cond_elim (λ k. is_make k ≡ false) (is_byte 76 w && is_number a && is_byte 49 b) (λ _. refl)
-    (λ _. cond_elim (λ k. is_make k ≡ false) (is_byte 87 w && is_offset a && is_number b) (λ _. refl) (λ _. refl)))
+three_not w a b = cond_both (is_byte 76 w && is_number a && is_byte 48 b) _ _ (λ k. is_make k ≡ false) (λ _. refl)
+    (λ _. cond_both (is_byte 76 w && is_number a && is_byte 49 b) _ _ (λ k. is_make k ≡ false) (λ _. refl)
+    (λ _. cond_both (is_byte 87 w && is_offset a && is_number b) _ _ (λ k. is_make k ≡ false) (λ _. refl) (λ _. refl)))
 
 module _ (o : Opening) where
   makes : {k : Command} → is_make k ≡ false → k ≡ Make o → ⊥
   unfolding is_make
-  makes e h = not_so e (ap is_make h)
+  makes e h = both_ways _ e (ap is_make h)
 
   -- the last word of a line that makes is kinds, and the place is where that word begins
   made : (long : ℕ) (ws : List (List ℕ)) → of_words long ws ≡ Make o →
@@ -102,8 +102,8 @@ make_at line o h = by_cases (ltb line_room (length line)) h
 
 all_at : (f : ℕ → Bool) (l : List ℕ) → So (list_all f l) → (i : ℕ) → i < length l → So (f (get_or l i 0))
 all_at f [] h i k = absurd (not-suc-le-zero k)
-all_at f (b ∷ bs) h zero k = and_left (f b) (list_all f bs) h
-all_at f (b ∷ bs) h (suc i) k = all_at f bs (and_right (f b) (list_all f bs) h) i (le_of_suc-le-suc k)
+all_at f (b ∷ bs) h zero k = (and_parts (f b) (list_all f bs) h).0
+all_at f (b ∷ bs) h (suc i) k = all_at f bs (and_parts (f b) (list_all f bs) h).1 i (le_of_suc-le-suc k)
 
 -- the same byte by byte, for a loop over the places
 pub kind_at : (line : List ℕ) (o : Opening) → command_of line ≡ Make o →

@@ -3,16 +3,10 @@
 use Rattle.std.proofs.Common.{◌≡◌, ◌∙◌, refl, sym, ap, ℕ, suc, ◌+◌, ◌≤◌, ◌<◌, Bool, true, false, cond, List, [], ◌∷◌, Option, Some, None, eqb, length, drop, drop-cons, drop-drop, drop_of_length-le, add-one, ⊎_elim, arith, le_refl, eq-eqb, ne_eqb}
 use Rattle.std.proofs.lemmas.Grind.{common_steps}
 use Rattle.std.proofs.lemmas.Option.{cond_some}
-use Rattle.std.proofs.lemmas.Bool.{cases_lt}
-use Rattle.laws.proofs.Truth.{cond_so, cond_not}
+use Rattle.std.proofs.lemmas.Bool.{cases_lt, cond-true, cond-false}
 use Rattle.commands.specs.declared.scan.Word.{Word}
 use Rattle.commands.specs.Grammar.{join_first, words}
 use Rattle.commands.specs.Leaves.{first_word, value_of, valued, ended, last_word, last_value}
-
--- a choice that makes no difference
-pub cond_same {ℓ} : {A : Type ℓ} (t : Bool) (x : A) → cond t x x ≡ x
-cond_same true x = refl
-cond_same false x = refl
 
 -- the words after the byte that ends a word, none where the line ends there
 unfoldable pub words_after : List ℕ → List (List ℕ)
@@ -84,7 +78,7 @@ module _ (form : List ℕ → Bool) (value : List ℕ → ℕ) (l : List ℕ) (a
     value_some f =
         let is = cond_some _ _ w (sym h) in
         ap (valued form value f) (words_at l at)
-        ∙ cond_so _ _ is.0
+        ∙ cond-true _ _ _ is.0
         ∙ ap (λ (x : Word). f x.value (words_after (drop x.end l))) is.1
 
     -- others are to follow
@@ -99,10 +93,10 @@ module _ (form : List ℕ → Bool) (value : List ℕ → ℕ) (l : List ℕ) (a
         (λ (more : w.end < length l).
         ap (λ (m : List ℕ). ended w.value (words_after m)) (drop-cons l w.end 0 more)
         ∙ ap (ended w.value) (words_first (drop (suc w.end) l))
-        ∙ sym (cond_not (Some w.value) None (ne_eqb w.end (length l) (omega arith))))
+        ∙ sym (cond-false _ (Some w.value) None (ne_eqb w.end (length l) (omega arith))))
         (λ (last : length l ≤ w.end).
         ap (λ (m : List ℕ). ended w.value (words_after m)) (drop_of_length-le l last)
-        ∙ sym (cond_so (Some w.value) None (eq-eqb w.end (length l) (omega arith))))
+        ∙ sym (cond-true _ (Some w.value) None (eq-eqb w.end (length l) (omega arith))))
         (cases_lt w.end (length l))
 
 pub ruleset last_steps = (common_steps, last_none, value_last)

@@ -1,7 +1,7 @@
 -- The laws of the folds of specs/Fold: what each means at an index, and that a change at one index changes a sum by as much.
 -- Assumes nothing.
 use mathlib.Core.Path.{◌≡◌, ◌∙◌, refl, sym, ap, ap₂, subst}
-use mathlib.Core.Bool.{Bool, true, false, cond, ◌&&◌, ◌||◌, So}
+use mathlib.Core.Bool.{Bool, true, false, ◌&&◌, ◌||◌, So}
 use mathlib.Core.Logic.{◌⊎◌, ⊎_elim, ◌≢◌}
 use mathlib.Core.List.{List, [], ◌∷◌}
 use lib.ListN.{get_or}
@@ -11,7 +11,7 @@ use native.Mathlib.Numerals.{add-one}
 use native.Mathlib.Omega.{arith}
 use lib.Dec.{ltb, eqb}
 use borrow.Author.Tests.{ltb-true, ltb-false, eqb-true, eqb-false}
-use Rattle.std.proofs.lemmas.Bool.{cases_Bool, both_ways, false_from_ne_true, and_from, and_parts, or_left, or_right, or_cases, cond-true, cond-false}
+use Rattle.std.proofs.lemmas.Bool.{cases_Bool, both_ways, false_from_ne_true, and_from, and_parts, or_left, or_right, or_cases, cond-true, cond-false, cond_both}
 use Rattle.laws.specs.Fold.{sum_to, all_to, all_of, any_to, first_to, best, First, Best}
 
 -- below one more: the last index, or below it
@@ -202,17 +202,12 @@ best_is f zero z =
       highest = up_to (λ j. f j ≤ f 0) 0 (λ j h. absurd (not-suc-le-zero h)) (le_refl _);
       lowest = λ j h. absurd (not-suc-le-zero h);
     } in
-    subst (Best f 1) (sym (cond_same (ltb (f 0) (f 0)))) here
-  where
-    cond_same : (b : Bool) → ◌≡◌ {A = ℕ} (cond b 0 0) 0
-    cond_same true = refl
-    cond_same false = refl
+    cond_both _ 0 0 (Best f 1) (λ _. here) (λ _. here)
 best_is f (suc n) z =
     let ih = best_is f n z in
-    ⊎_elim
-    (λ t. subst (Best f (suc (suc n))) (sym (cond-true _ _ _ t)) (best_new f (suc n) (best f (suc n)) ih (ltb-true _ _ t)))
-    (λ t. subst (Best f (suc (suc n))) (sym (cond-false _ _ _ t)) (best_old f (suc n) (best f (suc n)) ih (ltb-false _ _ t)))
-    (cases_Bool (ltb (f (best f (suc n))) (f (suc n))))
+    cond_both _ _ _ (Best f (suc (suc n)))
+    (λ t. best_new f (suc n) (best f (suc n)) ih (ltb-true _ _ t))
+    (λ t. best_old f (suc n) (best f (suc n)) ih (ltb-false _ _ t))
 
 -- no two numbers are the best
 pub best_once : (f : ℕ → ℕ) (n : ℕ) {j k : ℕ} → Best f n j → Best f n k → j ≡ k

@@ -1,4 +1,3 @@
-pub mod Truth
 pub mod Fold
 pub mod Bits
 pub mod Words

@@ -10,7 +10,7 @@ use model::Register;
 fn priority_at(n: u32, s: u32) -> Register
     ensures { result ≡ priority_at n s }
 {
-    if (1 <= s) & (s <= n) {
+    if (1..=n).contains(&s) {
         Register::Priority(s as usize)
     } else {
         Register::Nothing
@@ -32,7 +32,7 @@ fn pending_at(n: u32, w: u32) -> Register
 fn enable_at(n: u32, m: u32, c: u32, w: u32) -> Register
     ensures { result ≡ enable_at n m c w }
 {
-    if (c < m) & (w <= n / 32) {
+    if c < m && w <= n / 32 {
         Register::Enable(c as usize, w as usize)
     } else {
         Register::Nothing
@@ -43,10 +43,10 @@ fn enable_at(n: u32, m: u32, c: u32, w: u32) -> Register
 fn page_at(m: u32, c: u32, place: u32) -> Register
     ensures { result ≡ page_at m c place }
 {
-    if (c < m) & (place == 0) {
+    if c < m && place == 0 {
         return Register::Threshold(c as usize);
     }
-    if (c < m) & (place == 4) {
+    if c < m && place == 4 {
         return Register::Claim(c as usize);
     }
     Register::Nothing

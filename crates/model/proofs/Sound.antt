@@ -7,10 +7,10 @@ use Prim.Native.Nat.{ℕ, ◌+◌, ◌*◌, ◌≤◌, ◌<◌}
 use lib.Dec.{ltb, eqb}
 use borrow.Author.Tests.{ltb-true, ltb-false, lt-ltb, le-ltb, leb-true, eqb-true, le-leb, eq-eqb, ne_eqb, eqb-false, not-false}
 use Rattle.std.proofs.lemmas.Bool.{cases_Bool, both_ways, false_from_ne_true, not-true, and_from, and_parts}
+use Rattle.std.proofs.lemmas.Bool.Decides.{same_from_decides}
 use Rattle.limits.specs.Limits.{source_room, context_room, word_room}
 use Rattle.laws.specs.Fold.{all_of}
 use Rattle.laws.specs.Bits.{bit}
-use Rattle.laws.proofs.Truth.{same_test}
 use Rattle.laws.proofs.Fold.{all_at, all_from_each, test_at}
 use Rattle.laws.proofs.Bits.{bit_packed, bit_above, packed_lt, bits_ext}
 use Rattle.model.specs.declared.Shape.{Shape}
@@ -156,8 +156,8 @@ word_facts n w v e j t = ⊎_elim
 
 word_test : (n w v : ℕ) → ((j : ℕ) → So (bit v j) → (j < 32) × So (is_source n (w * 32 + j))) → v ≡ kept n w v
 word_test n w v f = bits_ext v (kept n w v) (λ j. ⊎_elim
-    (λ k. same_test _ _ (λ t. kept_bit n w v j (ltb-true j 32 k) ∙ and_from _ _ t (f j t).1)
-    (λ t. (and_parts (bit v j) _ (sym (kept_bit n w v j (ltb-true j 32 k)) ∙ t)).0))
+    (λ k. same_from_decides _ _ ((λ t. t), (λ t. t))
+    ((λ t. (and_parts (bit v j) _ (sym (kept_bit n w v j (ltb-true j 32 k)) ∙ t)).0), (λ t. kept_bit n w v j (ltb-true j 32 k) ∙ and_from _ _ t (f j t).1)))
     (λ k.
     let l : 32 ≤ j = ltb-false j 32 k in
     false_from_ne_true (bit v j) (λ t. both_ways _ (le-ltb j 32 l) (lt-ltb j 32 (f j t).0)) ∙ sym (kept_above n w v j l))

@@ -10,8 +10,8 @@ use native.Mathlib.Omega.{arith}
 use lib.Dec.{eqb}
 use lib.ListN.{drop}
 use borrow.Author.Tests.{eqb-true}
+use Rattle.std.proofs.lemmas.Bool.{cases_Bool, cond-true, cond-false}
 use Rattle.std.specs.Prelude.{Option, Some, None}
-use Rattle.laws.proofs.Truth.{dichotomy, cond_so, cond_not}
 use Rattle.model.specs.declared.State.{State}
 use Rattle.model.specs.Calls.{Call, respond}
 use Rattle.model.specs.Run.{Past, run, past, claims_in, ticks_in, every, ages_open, Accounted}
@@ -105,15 +105,15 @@ lines_reach [] s e = absurd (never e)
     never e = let z : ◌≡◌ {A = ℕ} 0 1 = cc in omega arith
 lines_reach (first ∷ later) s e = ⊎_elim
     (λ (t : So (eqb (making first).number 0)).
-    let same : on (run (making first).state (calls_in later)) ≡ on s = sym (cond_so _ _ t) ∙ e in
+    let same : on (run (making first).state (calls_in later)) ≡ on s = sym (cond-true _ _ _ t) ∙ e in
     let is : s ≡ run (making first).state (calls_in later) = cc in
     record {
       is = is;
       account = subst (λ (k : State). Accounted k (past (making first).state (calls_in later))) (sym is)
           (made_accounted (opening_of (command_of first)) first (calls_in later) (eqb-true _ 0 t));
     })
-    (λ t. absurd (never (sym (cond_not _ _ t) ∙ e)))
-    (dichotomy (eqb (making first).number 0))
+    (λ t. absurd (never (sym (cond-false _ _ _ t) ∙ e)))
+    (cases_Bool (eqb (making first).number 0))
   where
     never : ended ≡ on s → ⊥
     never e = let z : ◌≡◌ {A = ℕ} 0 1 = cc in omega arith

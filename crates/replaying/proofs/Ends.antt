@@ -8,25 +8,14 @@ use native.Mathlib.Nat.{zero-add, add_assoc, le_of_suc-le-suc, not-suc-le-zero}
 use native.Mathlib.Omega.{arith}
 use lib.Dec.{eqb}
 use lib.ListN.{length, get_or, take, drop, drop_of_length-le, take-append-drop}
-use lib.Seq.{take-suc, take-add, drop-cons, append_snoc}
-use borrow.Author.Tests.{eqb-true, eq-eqb, ne_eqb}
-use Rattle.laws.proofs.Truth.{cond_so, cond_not, cond_elim}
+use lib.Seq.{take-suc, take-add, append_snoc}
+use borrow.Author.Tests.{eqb-true}
+use Rattle.std.proofs.lemmas.Bool.{cond_both}
 use Rattle.replaying.specs.Replay.{Stand, answer, Replay, line_ends, fed, fed_all}
 use Rattle.replaying.specs.Pieces.{line_length, line_feeds}
 use Rattle.replaying.proofs.Chunks.{fed_apart}
 
--- one byte on
-line_step : (l : List ℕ) (i : ℕ) → i < length l → line_length (drop i l) ≡ cond (eqb (get_or l i 0) 10) 0 (suc (line_length (drop (suc i) l)))
-unfolding line_length
-line_step l i h = ap line_length (drop-cons l i 0 h)
-
-pub line_feed : (l : List ℕ) (i : ℕ) → i < length l → get_or l i 0 ≡ 10 → line_length (drop i l) ≡ 0
-line_feed l i h e = line_step l i h ∙ cond_so _ _ (eq-eqb _ _ e)
-
-pub line_next : (l : List ℕ) (i k : ℕ) → k ≡ suc i → i < length l → (get_or l i 0 ≡ 10 → ⊥) → k + line_length (drop k l) ≡ i + line_length (drop i l)
-line_next l i k e h ne =
-    omega (arith, e, line_step l i h ∙ cond_not _ _ (ne_eqb _ _ ne), ap (λ (j : ℕ). line_length (drop j l)) e)
-
+-- past the bytes no line is left
 pub line_over : (l : List ℕ) (i : ℕ) → length l ≤ i → line_length (drop i l) ≡ 0
 unfolding line_length
 line_over l i h = ap line_length (drop_of_length-le l h)
@@ -35,7 +24,7 @@ line_over l i h = ap line_length (drop_of_length-le l h)
 pub line_most : (l : List ℕ) → line_length l ≤ length l
 unfolding line_length
 line_most [] = omega arith
-line_most (b ∷ bs) = cond_elim (λ (k : ℕ). k ≤ suc (length bs)) (eqb b 10) (λ _. omega arith) (λ _. omega (arith, line_most bs))
+line_most (b ∷ bs) = cond_both (eqb b 10) _ _ (λ (k : ℕ). k ≤ suc (length bs)) (λ _. omega arith) (λ _. omega (arith, line_most bs))
 
 pub line_ended : (l : List ℕ) → line_length l < length l → get_or l (line_length l) 0 ≡ 10
 unfolding line_length
@@ -109,7 +98,7 @@ feeds_part n l = omega (arith, feeds_append (take n l) (drop n l), ap line_feeds
 pub feeds_most : (l : List ℕ) → line_feeds l ≤ length l
 unfolding line_feeds
 feeds_most [] = omega arith
-feeds_most (b ∷ bs) = cond_elim (λ (k : ℕ). k + line_feeds bs ≤ suc (length bs)) (eqb b 10) (λ _. omega (arith, feeds_most bs)) (λ _. omega (arith, feeds_most bs))
+feeds_most (b ∷ bs) = cond_both (eqb b 10) _ _ (λ (k : ℕ). k + line_feeds bs ≤ suc (length bs)) (λ _. omega (arith, feeds_most bs)) (λ _. omega (arith, feeds_most bs))
 
 -- a whole line has one
 pub feeds_line : (l : List ℕ) → line_length l < length l → line_feeds (take (suc (line_length l)) l) ≡ 1

@@ -11,9 +11,9 @@ use lib.Dec.{leb, eqb, lit≤}
 use lib.ListN.{length, take, drop, replicate, length-append, length-take, length-replicate}
 use lib.Seq.{sets, sets-eq, take-take, take-append_seam}
 use borrow.Author.Tests.{le-leb, eq-eqb}
+use Rattle.std.proofs.lemmas.Bool.{and_from, cond-true, cond-false, cond_both}
 use Rattle.limits.specs.Limits.{held_room}
 use Rattle.laws.specs.Fold.{all_of}
-use Rattle.laws.proofs.Truth.{and_intro, cond_so, cond_not, cond_elim}
 use Rattle.model.specs.declared.State.{State}
 use Rattle.model.specs.Board.{zero_state}
 use Rattle.model.specs.Sound.{Sound}
@@ -145,7 +145,7 @@ OneLine l = line_length l ≡ length l
 one_line_more : (l : List ℕ) (b : ℕ) → eqb b 10 ≡ false → OneLine l → OneLine (l ++ (b ∷ []))
 unfolding line_length
 one_line_more l b e f =
-    line_append l (b ∷ []) f ∙ ap (λ (k : ℕ). length l + k) (cond_not 0 1 e) ∙ sym (length-append l (b ∷ []))
+    line_append l (b ∷ []) f ∙ ap (λ (k : ℕ). length l + k) (cond-false _ 0 1 e) ∙ sym (length-append l (b ∷ []))
 
 one_line_cut : (n : ℕ) (l : List ℕ) → OneLine l → OneLine (take n l)
 unfolding line_length
@@ -160,7 +160,7 @@ one_line_cut (suc n) (b ∷ bs) f = by_cases (eqb b 10) f (one_line_cut n bs)
 
 fed_one_line : (r : Replay) (b : ℕ) → OneLine r.begun → OneLine (fed r b).begun
 unfolding fed line_ends line_length
-fed_one_line r b f = cond_elim (λ (k : Replay). OneLine k.begun) (eqb b 10) (λ _. refl) (λ t. one_line_more r.begun b t f)
+fed_one_line r b f = cond_both (eqb b 10) _ _ (λ (k : Replay). OneLine k.begun) (λ _. refl) (λ t. one_line_more r.begun b t f)
 
 fed_all_one_line : (r : Replay) (bs : List ℕ) → OneLine r.begun → OneLine (fed_all r bs).begun
 unfolding fed_all
@@ -172,8 +172,8 @@ line_fit : (board : Bool) (l : List ℕ) → OneLine l → So board →
     So (all_of (leb (length (take held_room l)) held_room ∷ eqb (line_length (take (length (take held_room l)) (padded l))) (length (take held_room l)) ∷ board ∷ []))
 unfolding all_of
 line_fit board l f t =
-    and_intro (le-leb (length (take held_room l)) held_room (omega (arith, length-take held_room l, min-le_left held_room (length l))))
-    (and_intro (eq-eqb _ _ (ap line_length (padded_held l) ∙ one_line_cut held_room l f)) (and_intro t refl))
+    and_from _ _ (le-leb (length (take held_room l)) held_room (omega (arith, length-take held_room l, min-le_left held_room (length l))))
+    (and_from _ _ (eq-eqb _ _ (ap line_length (padded_held l) ∙ one_line_cut held_room l f)) (and_from _ _ t refl))
 
 paused_fit : (p : Stand) (l : List ℕ) → OneLine l → ((s : State) → p ≡ on s → Sound s) → So (fit (paused p l))
 unfolding fit paused board_sound all_of line_length
@@ -206,7 +206,7 @@ cut_last ended (b ∷ bs) q = sym (append-nil (q ++ []))
 paused_ending : (r : Replay) → So (fit (paused_of r)) → r.printed ++ ending (paused_of r) ≡ finished (last_in r.begun r)
 unfolding ending
 paused_ending r t =
-    ap (λ (l : List ℕ). r.printed ++ l) (cond_so _ _ t ∙ ap (λ (k : Replay). finished (last_in k.begun k)) (shown_paused r.stand r.begun))
+    ap (λ (l : List ℕ). r.printed ++ l) (cond-true _ _ _ t ∙ ap (λ (k : Replay). finished (last_in k.begun k)) (shown_paused r.stand r.begun))
     ∙ cut_last r.stand r.begun r.printed
 
 -- the replay that is held is always fit ..

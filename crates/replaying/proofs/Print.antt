@@ -1,15 +1,14 @@
 -- The digits of a number and how many there are; and text written part by part.
 -- Assumes nothing.
-use Rattle.std.proofs.Common.{◌≡◌, ◌∙◌, refl, sym, ap, ℕ, ◌+◌, ◌*◌, ◌^◌, ◌≤◌, ◌<◌, List, [], ◌∷◌, ◌++◌, length, get_or, take, drop, set, length-append, append_assoc, take-append-drop, pow-suc, ⊎_elim, drop-drop, take-suc, length-take-le, add-one, arith, lit≤, lt-ltb, le-ltb, le-leb, decimal}
+use Rattle.std.proofs.Common.{◌≡◌, ◌∙◌, refl, sym, ap, ℕ, ◌+◌, ◌*◌, ◌^◌, ◌≤◌, ◌<◌, List, ◌++◌, length, take, drop, length-append, append_assoc, take-append-drop, pow-suc, ⊎_elim, drop-drop, add-one, arith, lit≤, lt-ltb, le-ltb, le-leb, decimal}
 use Rattle.std.proofs.Math.Nat.{pow-le-pow_right}
 use Rattle.std.proofs.Math.Seq.{length-sets}
-use Rattle.std.proofs.lemmas.Bool.{lt-leb, cases_lt}
+use Rattle.std.proofs.lemmas.Bool.{lt-leb, cases_lt, cond-true, cond-false}
 use Rattle.std.proofs.lemmas.List.Edits.{sets, sets-eq}
 use Rattle.std.proofs.lemmas.Fmt.{decimal_from_appends, decimal_is_IsNumeral, length-decimal-le}
 use Rattle.std.proofs.lemmas.Int.Digits.{digits_value-lt}
 use borrow.Rule.Slice.PartMut.{put_mid}
 use Rattle.laws.proofs.Lists.{sets_append}
-use Rattle.laws.proofs.Truth.{cond_so, cond_not}
 use Rattle.replaying.specs.Replay.{digits_in, digits}
 use Rattle.replaying.specs.Text.{Written, Put, put}
 
@@ -18,7 +17,7 @@ pub digits_are : (n : ℕ) → n < 2 ^ 64 → digits n ≡ decimal n
 unfolding digits digits_in
 digits_are n h =
     decimal_from_appends digits_in
-    (record { one = λ k m below. cond_so _ _ (lt-ltb m 10 below); more = λ k m above. cond_not _ _ (le-ltb m 10 above) })
+    (record { one = λ k m below. cond-true _ _ _ (lt-ltb m 10 below); more = λ k m above. cond-false _ _ _ (le-ltb m 10 above) })
     20 n h (length-decimal-le 20 n (omega arith) (omega (arith, h)) h)
 
 -- how many there are at most
@@ -31,7 +30,7 @@ digits_wide n h = omega (arith, ap length (digits_are n h), length-decimal-le 20
 -- how many there are, by the power of ten that the number reaches
 pub width_one : (n : ℕ) → n < 10 → length (digits n) ≡ 1
 unfolding digits digits_in
-width_one n h = ap length (cond_so _ _ (lt-ltb n 10 h))
+width_one n h = ap length (cond-true _ _ _ (lt-ltb n 10 h))
 
 width_least : (n k : ℕ) → n < 2 ^ 64 → 10 ^ k ≤ n → k < length (digits n)
 width_least n k h least =
@@ -96,29 +95,19 @@ pub put_written : {l out : List ℕ} {at end : ℕ} {text : List ℕ} (room : �
     record { bytes = out; end = end } ≡ put room text l at
 unfolding put
 put_written {l} {at = at} {text = text} room h w = λ i. record {
-  bytes = (w.bytes ∙ sym (cond_so (sets l at text) l (le-leb _ _ h))) i;
-  end = (w.place ∙ sym (cond_so (at + length text) at (le-leb _ _ h))) i;
+  bytes = (w.bytes ∙ sym (cond-true _ (sets l at text) l (le-leb _ _ h))) i;
+  end = (w.place ∙ sym (cond-true _ (at + length text) at (le-leb _ _ h))) i;
 }
 
 pub put_nothing : (l : List ℕ) (at room : ℕ) (text : List ℕ) → length l < at + room → record { bytes = l; end = at } ≡ put room text l at
 unfolding put
-put_nothing l at room text h = λ i. record { bytes = sym (cond_not {A = List ℕ} (sets l at text) l (lt-leb _ _ h)) i; end = sym (cond_not {A = ℕ} (at + length text) at (lt-leb _ _ h)) i }
+put_nothing l at room text h = λ i. record { bytes = sym (cond-false {A = List ℕ} _ (sets l at text) l (lt-leb _ _ h)) i; end = sym (cond-false {A = ℕ} _ (at + length text) at (lt-leb _ _ h)) i }
 
 -- what `put` says, where there is room
 pub written_put : (room : ℕ) (text l out : List ℕ) (at end : ℕ) → at + room ≤ length l → record { bytes = out; end = end } ≡ put room text l at →
     Written l out at end text
 unfolding put
 written_put room text l out at end h e = record {
-  bytes = ap (λ (p : Put). p.bytes) e ∙ cond_so _ _ (le-leb _ _ h);
-  place = ap (λ (p : Put). p.end) e ∙ cond_so _ _ (le-leb _ _ h);
+  bytes = ap (λ (p : Put). p.bytes) e ∙ cond-true _ _ _ (le-leb _ _ h);
+  place = ap (λ (p : Put). p.end) e ∙ cond-true _ _ _ (le-leb _ _ h);
 }
-
--- one element more of a run of stores
-pub sets_more : (l out : List ℕ) (at : ℕ) (text : List ℕ) (i : ℕ) → i < length text → out ≡ sets l at (take i text) →
-    set out (at + i) (get_or text i 0) ≡ sets l at (take (i + 1) text)
-sets_more l out at text i h e =
-    ap (λ (o : List ℕ). set o (at + i) (get_or text i 0)) e
-    ∙ ap (λ (k : ℕ). set (sets l at (take i text)) (at + k) (get_or text i 0)) (sym (length-take-le i text (omega (arith, h))))
-    ∙ sym (sets_append l at (take i text) (get_or text i 0 ∷ []))
-    ∙ ap (sets l at) (sym (take-suc text i 0 h))
-    ∙ ap (λ (k : ℕ). sets l at (take k text)) (sym (add-one i))

@@ -6,8 +6,8 @@ use Prim.Native.Nat.{ℕ, zero, suc, ◌+◌, ◌/◌, ◌%◌, ◌≤◌}
 use native.Mathlib.Omega.{arith}
 use lib.Dec.{ltb, eqb}
 use lib.ListN.{length, get_or, drop, length-append}
+use Rattle.std.proofs.lemmas.Bool.{cond_both}
 use Rattle.std.specs.Prelude.{Option, Some, None}
-use Rattle.laws.proofs.Truth.{cond_elim}
 use Rattle.model.specs.declared.State.{State}
 use Rattle.model.specs.Refusals.{Outcome}
 use Rattle.model.specs.Calls.{line, advance, read, write, notification, totals, values_of, respond, make}
@@ -22,7 +22,7 @@ use Rattle.replaying.specs.Pieces.{shown, fit, ending}
 places : (j n : ℕ) → length (digits_in j n) ≤ j
 unfolding digits_in
 places zero n = omega arith
-places (suc j) n = cond_elim (λ (l : List ℕ). length l ≤ suc j) (ltb n 10) {x = (48 + n) ∷ []} {y = digits_in j (n / 10) ++ ((48 + n % 10) ∷ [])}
+places (suc j) n = cond_both (ltb n 10) ((48 + n) ∷ []) (digits_in j (n / 10) ++ ((48 + n % 10) ∷ [])) (λ (l : List ℕ). length l ≤ suc j)
     (λ _. omega arith)
     (λ _. omega (arith, length-append (digits_in j (n / 10)) ((48 + n % 10) ∷ []), places j (n / 10)))
 
@@ -44,7 +44,7 @@ silent_short v = omega arith
 
 told_short : (says : ℕ → List ℕ) → ((v : ℕ) → length (says v) ≤ 29) → (o : Outcome) → length (goes_on says o).prints ≤ 29
 unfolding goes_on
-told_short says h o = cond_elim (λ (l : List ℕ). length l ≤ 29) (eqb o.number 0) (λ _. h (get_or o.values 0 0)) (λ _. refused_short o.number)
+told_short says h o = cond_both (eqb o.number 0) _ _ (λ (l : List ℕ). length l ≤ 29) (λ _. h (get_or o.values 0 0)) (λ _. refused_short o.number)
 
 commanded_short : (c : Command) (s : State) → length (commanded c s).prints ≤ 29
 unfolding commanded
@@ -58,7 +58,7 @@ commanded_short Unreadable s = refused_short 11
 
 started_short : (o : Outcome) → length (started o).prints ≤ 29
 unfolding started
-started_short o = cond_elim (λ (l : List ℕ). length l ≤ 29) (eqb o.number 0) {x = []} {y = refused_line o.number} (λ _. omega arith) (λ _. refused_short o.number)
+started_short o = cond_both (eqb o.number 0) [] (refused_line o.number) (λ (l : List ℕ). length l ≤ 29) (λ _. omega arith) (λ _. refused_short o.number)
 
 first_short : (o : Option Opening) (bytes : List ℕ) → length (first_line o bytes).prints ≤ 29
 unfolding first_line bad_start
@@ -109,5 +109,5 @@ last_short (b ∷ bs) r e =
 
 pub ending_short : (r : Replaying) → length (ending r) ≤ 160
 unfolding ending shown
-ending_short r = cond_elim (λ (l : List ℕ). length l ≤ 160) (fit r) {x = finished (last_in (shown r).begun (shown r))} {y = []}
+ending_short r = cond_both (fit r) (finished (last_in (shown r).begun (shown r))) [] (λ (l : List ℕ). length l ≤ 160)
     (λ _. last_short (shown r).begun (shown r) refl) (λ _. omega arith)

@@ -7,8 +7,8 @@ use Prim.Native.Nat.{ℕ}
 use lib.Dec.{eqb}
 use lib.ListN.{drop}
 use borrow.Author.Tests.{eqb-true}
+use Rattle.std.proofs.lemmas.Bool.{cond_both}
 use Rattle.std.specs.Prelude.{Option, Some, None}
-use Rattle.laws.proofs.Truth.{cond_elim}
 use Rattle.model.specs.declared.State.{State}
 use Rattle.model.specs.declared.Refusal.TheVariants as refusal
 use Rattle.model.specs.Refusals.{number_of}
@@ -72,7 +72,7 @@ first_sound : (o : Option Opening) (bytes : List ℕ) → OnSound (first_line o 
 unfolding first_line bad_start started
 first_sound (Some o) bytes =
     let kinds : List ℕ = kind_bytes (drop o.kinds bytes) in
-    cond_elim OnSound (eqb (make o.sources o.contexts o.bits kinds).number 0) (λ t. (made_sound o.sources o.contexts o.bits kinds (eqb-true _ 0 t)).1) (λ _. tt)
+    cond_both (eqb (make o.sources o.contexts o.bits kinds).number 0) _ _ OnSound (λ t. (made_sound o.sources o.contexts o.bits kinds (eqb-true _ 0 t)).1) (λ _. tt)
 first_sound None bytes = tt
 
 answer_swift : (p : Stand) (bytes : List ℕ) → OnSound p → (answer p bytes ≡ swift_answer p bytes) × OnSound (answer p bytes).stand
@@ -87,7 +87,7 @@ fed_swift r b f =
     let a = answer_swift r.stand r.begun f in
     let held : Replay = record { stand = r.stand; begun = r.begun ++ (b ∷ []); printed = r.printed } in (
       ap (λ (t : Told). cond (eqb b 10) (swift_ends r t) held) a.0,
-      cond_elim (λ (k : Replay). OnSound k.stand) (eqb b 10) (λ _. a.1) (λ _. f),
+      cond_both (eqb b 10) _ _ (λ (k : Replay). OnSound k.stand) (λ _. a.1) (λ _. f),
     )
 
 all_swift : (bs : List ℕ) (r : Replay) → OnSound r.stand → fed_all r bs ≡ swift_all r bs

@@ -12,8 +12,8 @@ use lib.Dec.{leb, eqb}
 use lib.ListN.{length, take, drop, take-append-drop}
 use lib.Seq.{take-length, length-take-le, take_all}
 use borrow.Author.Tests.{lt-ltb, leb-true, leb-false}
+use Rattle.std.proofs.lemmas.Bool.{cond-true, cases_Bool}
 use Rattle.limits.specs.Limits.{line_room, held_room}
-use Rattle.laws.proofs.Truth.{cond_so, dichotomy}
 use Rattle.commands.specs.Grammar.{command_of, opening_of}
 use Rattle.commands.specs.declared.Command.{Command}
 use Rattle.commands.specs.declared.Command.TheVariants.{Unreadable}
@@ -111,7 +111,7 @@ feeds_none (b ∷ bs) e = by_cases (eqb b 10) e (feeds_none bs)
 -- a line that is too long
 pub too_long : (l : List ℕ) → line_room < length l → command_of l ≡ Unreadable
 unfolding command_of
-too_long l h = cond_so _ _ (lt-ltb line_room (length l) h)
+too_long l h = cond-true _ _ _ (lt-ltb line_room (length l) h)
 
 pub unreadable_answer : (p : Stand) (l m : List ℕ) → command_of l ≡ Unreadable → command_of m ≡ Unreadable → answer p l ≡ answer p m
 unfolding answer first_line opening_of
@@ -125,4 +125,4 @@ cut_answer p l = ⊎_elim
     (λ t.
     let long = leb-false (length l) held_room t in
     unreadable_answer p (take held_room l) l (too_long (take held_room l) (omega (arith, length-take-le held_room l (omega (arith, long))))) (too_long l (omega (arith, long))))
-    (dichotomy (leb (length l) held_room))
+    (cases_Bool (leb (length l) held_room))

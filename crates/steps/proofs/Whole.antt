@@ -8,8 +8,8 @@ use Prim.Native.Nat.{ℕ}
 use lib.Dec.{eqb}
 use lib.ListN.{get_or}
 use lib.Seq.{set-get_or}
+use native.Mathlib.Omega.{arith}
 use Rattle.std.proofs.lemmas.Bool.{cases_Bool, cond-true, cond-false}
-use Rattle.laws.proofs.Truth.{cond_ap}
 use Rattle.model.specs.declared.Requests.{Requests}
 use Rattle.model.specs.declared.Settings.{Settings}
 use Rattle.model.specs.declared.Counts.{Counts}
@@ -116,9 +116,7 @@ module _ (s : State) where
   -- a completion, and a write to any register
   complete_whole : (c v : ℕ) → with_written s s.settings (completed_by n s.settings.enable s.shape.kind s.clock c v s.requests) ≡ complete_by s c v
   unfolding complete_by takes_effect with_request is_in_service request enabled enable_word kind_of completed_by completed_at takes_effect_in enabled_in
-  complete_whole c v =
-      cond_ap (λ (x : Requests). with_written s s.settings x) (takes_effect_in n s.settings.enable s.requests.stage c v)
-      (completed_at (get_or s.shape.kind v 0) s.clock v s.requests) s.requests
+  complete_whole c v = grind arith
 
   pub write_whole : (r : Register) (v : ℕ) →
       with_written s (settings_written n s.shape.bits s.settings r v)
