@@ -10,7 +10,8 @@ ghost use Rattle.commands.specs.Leaves.{letter_of, read_as};
 
 use crate::forms::{WORDS, last_number, last_offset, line_of, make_of, write_of};
 
-// A board as a `P` line asks for it: N, C, b, and the place where the letters of the kinds begin.
+// A board as a `P` line asks for it: N, C, b, and the place where the letters of the kinds begin. It is a place, and not the letters, as
+// the grammar gives it (Places.kind_at).
 #[derive(Clone, Copy)]
 pub struct Opening {
     pub sources: u32,
@@ -19,7 +20,7 @@ pub struct Opening {
     pub kinds: usize,
 }
 
-// A command, with the numbers that its line gives.
+// A command, with the numbers that its line gives. `Unreadable` is a case of the grammar (Grammar.command_of), and no absence.
 #[derive(Clone, Copy)]
 pub enum Command {
     Make(Opening),
@@ -42,7 +43,8 @@ fn letter_of(line: &[u8]) -> Option<u8>
     }
 }
 
-// What a line of a form asks for: each letter has its form. With `map` in place of `?` a line takes a tenth more instructions.
+// What a line of a form asks for. A `match`: each letter reads words of another form. With `map` in place of `?` a line takes a tenth more
+// instructions.
 #[tactic(auto, using(crate::proofs::Letters::told_steps))]
 fn of_form(line: &[u8]) -> Option<Command>
     ensures { read_as result ≡ command_of line.now }

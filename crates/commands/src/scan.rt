@@ -1,4 +1,5 @@
-// Scanning: what stands at a place of a line. Leaves: the line and numbers only, one pass over the bytes.
+// Scanning: what stands at a place of a line. Leaves: the line and numbers only, one pass over the bytes. Each takes the line and a place:
+// the line stays whole, since where the kinds begin is a place in it.
 ghost use Rattle.std.specs.Prelude.{◌≡◌, ◌<◌, ◌≤◌, length, drop, IfSome};
 ghost use Rattle.commands.specs.Grammar.{is_kind, is_kinds};
 ghost use Rattle.commands.specs.Leaves.{last_value, number_at, offset_at, ends_with, number_rest, hex_worth};
@@ -25,7 +26,8 @@ fn is_kind(b: u8) -> bool
     matches!(b, b'l' | b'e' | b'c')
 }
 
-// What a hex digit is worth. Two tests: a `match` on the two ranges takes a quarter more instructions for an offset.
+// What a hex digit is worth. By hand: the library's `to_digit` takes small letters too. Two tests: a `match` on the two ranges takes a
+// quarter more instructions for an offset.
 #[tactic(auto, unfolding(crate::specs::Leaves::hex_worth))]
 fn hex_worth(b: u8) -> Option<u32>
     ensures value { result ≡ hex_worth b }
@@ -52,7 +54,8 @@ fn ends_with(line: &[u8], at: usize, value: u32) -> Option<Word>
     }
 }
 
-// The rest of a number, whose digits before it are worth `first`.
+// The rest of a number, whose digits before it are worth `first`. The end is counted beside: `enumerate` has no place for the end of the
+// line.
 #[tactic(auto, using(crate::proofs::Digits::number_steps))]
 fn number_rest(line: &[u8], from: usize, first: u32) -> Option<Word>
     requires { from ≤ length line.now }
@@ -71,7 +74,7 @@ fn number_rest(line: &[u8], from: usize, first: u32) -> Option<Word>
     ends_with(line, end, value)
 }
 
-// The number at a place: no needless leading zero, at most 4294967295.
+// The number at a place: no needless leading zero, at most 4294967295. By hand: `FromStr` takes a sign and needless zeros.
 #[tactic(auto, using(crate::proofs::Digits::number_starts))]
 pub(crate) fn number_at(line: &[u8], at: usize) -> Option<Word>
     ensures value { result ≡ number_at line.now at }
@@ -84,7 +87,7 @@ pub(crate) fn number_at(line: &[u8], at: usize) -> Option<Word>
     }
 }
 
-// The offset at a place: eight hex digits, capitals.
+// The offset at a place: eight hex digits, capitals. By hand: the library's `from_str_radix` takes small letters and a sign too.
 #[tactic(auto, using(crate::proofs::Digits::offset_steps))]
 pub(crate) fn offset_at(line: &[u8], at: usize) -> Option<Word>
     requires { at ≤ length line.now }

@@ -4,7 +4,7 @@
 
 use model::{Refusal, State};
 
-// What a call answered, on a line after its label. A line that cannot be written is let go.
+// What a call answered, on a line after its label. A line that cannot be written is let go. Two arms: a `Result` has no `Display`.
 fn show(rt: &impl Print, label: &str, got: Result<u32, Refusal>) {
     let _ = match got {
         Ok(v) => println!(rt; "{label}: {v}"),

@@ -1,8 +1,8 @@
--- What the leaves compute, over the arrays that they are lent: the model's definitions at those lists.
+-- The model's definitions at the arrays of a state, as lists: the words of steps' `Whole`. And the numbers of a register of the board.
 -- Assumes nothing.
-use Rattle.std.specs.Prelude.{Bool, cond, ◌&&◌, List, [], ◌∷◌, ℕ, suc, ◌+◌, ◌-◌, ◌*◌, ◌/◌, ◌%◌, ◌≤◌, ◌<◌, leb, ltb, eqb, get_or}
+use Rattle.std.specs.Prelude.{Bool, cond, ◌&&◌, List, [], ◌∷◌, ℕ, suc, ◌+◌, ◌*◌, ◌/◌, ◌%◌, ◌≤◌, ◌<◌, leb, eqb, get_or}
 use Rattle.limits.specs.Limits.{context_room, word_room}
-use Rattle.laws.specs.Fold.{all_of, any_to, best}
+use Rattle.laws.specs.Fold.{all_of, best}
 use Rattle.laws.specs.Bits.{bit, packed}
 use Rattle.model.specs.declared.Register.{Register}
 use Rattle.model.specs.declared.Register.TheVariants.{Priority, Pending, Enable, Threshold, Claim, Nothing}
@@ -28,19 +28,9 @@ rank_in n stage prio enable c i = cond (pending_for_in n stage enable c i && leb
 unfoldable pub winner_in : ℕ → List ℕ → List ℕ → List ℕ → ℕ → ℕ
 winner_in n stage prio enable c = best (rank_in n stage prio enable c) (suc n)
 
-unfoldable pub rouses_in : ℕ → List ℕ → List ℕ → List ℕ → ℕ → ℕ → ℕ → Bool
-rouses_in n stage prio enable limit c i = pending_for_in n stage enable c i && ltb limit (get_or prio i 0)
-
-unfoldable pub notified_in : ℕ → List ℕ → List ℕ → List ℕ → ℕ → ℕ → Bool
-notified_in n stage prio enable limit c = any_to (rouses_in n stage prio enable limit c) (suc n)
-
 -- the pending bits of the sources 32w to 32w + 31
 unfoldable pub pending_word_in : List ℕ → ℕ → ℕ
 pending_word_in stage w = packed (λ j. is_pending_in stage (w * 32 + j)) 32
-
--- an open age, of a source that is pending or not
-unfoldable pub open_age_in : ℕ → Bool → ℕ → ℕ
-open_age_in clock pending start = cond pending (clock - start) 0
 
 -- the numbers of a register of a board of n sources are indices of their arrays
 abbrev pub Within : ℕ → Register → Type 0

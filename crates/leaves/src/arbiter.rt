@@ -1,4 +1,5 @@
-// The choice of a claim's winner, and whether a context is notified. Leaves: the state that is lent is read, and no more.
+// The choice of a claim's winner, and whether a context is notified. Leaves: the state that is lent is read, and no more. Numbers of
+// sources and contexts are plain indices: a type for them would be made at each call and taken apart at each access.
 ghost use Rattle.std.specs.Prelude.{◌≡◌, cond, ◌&&◌, ℕ, ◌<◌, ◌≤◌};
 ghost use Rattle.limits.specs.Limits.{source_room, context_room};
 ghost use Rattle.model.specs.Board.{request, priority, enabled};
@@ -9,7 +10,7 @@ use crate::stages::is_pending;
 use crate::words::is_enabled;
 use model::State;
 
-// The priority of source i where it is pending and enabled in context c, and 0 where it is not.
+// The priority of source i where it is pending and enabled in context c, and 0 where it is not: 0 is the definition's rank (Life.rank).
 #[tactic(auto, unfolding(model::specs::Board::priority))]
 fn rank_of(state: &State, c: usize, i: usize) -> u8
     requires { (c < context_room) × (i < source_room) }
@@ -22,7 +23,8 @@ fn rank_of(state: &State, c: usize, i: usize) -> u8
     }
 }
 
-// The source that a claim by context c gives: the highest priority, then the lowest ID; 0 where nothing is eligible.
+// The source that a claim by context c gives: the highest priority, then the lowest ID; 0 where nothing is eligible, and no Option:
+// "None: 0" is document 01's.
 pub fn winner(state: &State, c: usize) -> usize
     requires { (state.now.shape.sources < source_room) × (c < context_room) }
     ensures { result ≡ winner state.now c }

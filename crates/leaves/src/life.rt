@@ -1,4 +1,5 @@
-// The life of one request, by value: a change of its line, and a completion. Leaves: no arrays, no state.
+// The life of one request, by value: a change of its line, and a completion. Leaves: no arrays, no state. They are on the bytes that a
+// state holds, with the arguments of the definitions.
 ghost use Rattle.std.specs.Prelude.{◌≡◌};
 ghost use Rattle.model.specs.Life.{level_changed, edge_changed, line_changed, completed};
 
@@ -45,7 +46,7 @@ fn edge_changed(kind: u8, clock: u32, level: bool, r: Request) -> Request
     Request { line: level, ..r }
 }
 
-// The request after its source's line is set to a level.
+// The request after its source's line is set to a level. One test on the kind, as the definition.
 #[tactic(auto, unfolding(model::specs::Life::line_changed))]
 pub fn line_changed(kind: u8, clock: u32, level: bool, r: Request) -> Request
     ensures { result ≡ line_changed kind clock level r }

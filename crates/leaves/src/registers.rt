@@ -52,7 +52,7 @@ fn page_at(m: u32, c: u32, place: u32) -> Register
     Register::Nothing
 }
 
-// The register at an offset, for n sources and m contexts.
+// The register at an offset, for n sources and m contexts. Ranges of an offset, as Registers.decode.
 #[tactic(auto, using(crate::proofs::Bounds::bounded), unfolding(model::specs::Registers::decode))]
 pub fn register_at(n: u32, m: u32, offset: u32) -> Register
     requires { m ≤ context_room }

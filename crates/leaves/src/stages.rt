@@ -8,7 +8,7 @@ ghost use Rattle.model.specs.Waits.{is_pending, is_in_service};
 
 use model::{Request, Requests, Stage};
 
-// Whether source i is pending.
+// Whether source i is pending. Two functions, this and the next: document 01 has two words.
 #[tactic(auto, unfolding(model::specs::Waits::is_pending, model::specs::Board::request))]
 pub fn is_pending(requests: &Requests, i: usize) -> bool
     requires { i < source_room }

@@ -29,7 +29,7 @@ pub fn bucket_of(wait: u32) -> usize
     (32 - u32::leading_zeros(wait)) as usize
 }
 
-// The ticks from the step that set the pending bit to now, where it is set.
+// The ticks from the step that set the pending bit to now, where it is set; 0 where it is not, as the definition.
 #[tactic(auto, unfolding(model::specs::Waits::open_age, model::specs::Waits::is_pending))]
 pub fn open_age(clock: u32, r: Request) -> u32
     ensures { result ≡ open_age clock r }

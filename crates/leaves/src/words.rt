@@ -1,5 +1,5 @@
 // Words of bits: a bit of a word, and what a write of enables, of a priority or of a threshold keeps.
-// Leaves: numbers and lent arrays only.
+// Leaves: numbers and the settings that are lent only.
 ghost use Rattle.std.specs.Prelude.{◌≡◌, ℕ, ◌+◌, ◌*◌, ◌^◌, ◌/◌, ◌%◌, ◌<◌, ◌≤◌};
 ghost use Rattle.limits.specs.Limits.{source_room, last_source, context_room, most_bits};
 ghost use Rattle.laws.specs.Bits.{bit};

@@ -21,7 +21,8 @@ pub enum Stage {
 }
 
 // What the board contains: N sources, C contexts, b priority bits, and the byte of its kind for each source. Number 0 is no source and
-// keeps zero.
+// keeps zero. A byte, and no `Kind`: a state that is handed in may hold any (Sound.sound_iff). One array by source is a form that document
+// 01 names.
 #[derive(Clone, Copy)]
 pub struct Shape {
     pub sources: u32,
@@ -31,6 +32,7 @@ pub struct Shape {
 }
 
 // What software sets by writing: priorities by source, enables as words of 32 sources (context × WORD_ROOM + word), thresholds by context.
+// One array for each quantity by source is a form that document 01 names; the enables are packed in words, as document 01 has them.
 #[derive(Clone, Copy)]
 pub struct Settings {
     pub priority: [u8; SOURCE_ROOM],
@@ -38,7 +40,8 @@ pub struct Settings {
     pub threshold: [u8; CONTEXT_ROOM],
 }
 
-// The life of one source's request: its stage, its line, the extra edges of a counting source, and the clock when it became pending.
+// The life of one source's request: its stage, its line, the extra edges of a counting source, and the clock when it became pending. The
+// stage is a byte, and no `Stage`: a state that is handed in may hold any (Sound.sound_iff).
 #[derive(Clone, Copy)]
 pub struct Request {
     pub stage: u8,
@@ -47,7 +50,7 @@ pub struct Request {
     pub start: u32,
 }
 
-// The same for each source.
+// The same for each source: one array for each quantity by source, a form that document 01 names.
 #[derive(Clone, Copy)]
 pub struct Requests {
     pub stage: [u8; SOURCE_ROOM],
@@ -56,14 +59,16 @@ pub struct Requests {
     pub start: [u32; SOURCE_ROOM],
 }
 
-// The finished waits of each source: how many claims, and the ticks that those waited.
+// The finished waits of each source: how many claims, and the ticks that those waited. One array for each, a form that document 01 names.
+// Beside `Buckets` a struct of its own: by source and by bucket are two quantities of document 01.
 #[derive(Clone, Copy)]
 pub struct Counts {
     pub claims: [u32; SOURCE_ROOM],
     pub waited: [u32; SOURCE_ROOM],
 }
 
-// The finished waits of the whole board by length: bucket 0 holds waits of 0, bucket k those from 2^(k-1) to 2^k - 1.
+// The finished waits of the whole board by length: bucket 0 holds waits of 0, bucket k those from 2^(k-1) to 2^k - 1. The two arrays are
+// the lists of the definitions (Waits.booked).
 #[derive(Clone, Copy)]
 pub struct Buckets {
     pub claims: [u32; BUCKET_ROOM],
@@ -97,7 +102,7 @@ pub enum Refusal {
     Unreadable = 11,
 }
 
-// A register of the map, by the number of its source, word or context.
+// A register of the map, by the number of its source, word or context. `Nothing` is a case of the map (Registers.decode), and no absence.
 #[derive(Clone, Copy)]
 pub enum Register {
     Priority(usize),

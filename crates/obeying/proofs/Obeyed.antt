@@ -3,6 +3,7 @@
 use mathlib.Core.Path.{◌≡◌, ◌∙◌, refl, sym, ap}
 use mathlib.Core.Bool.{false}
 use mathlib.Core.List.{List}
+use mathlib.Core.Logic.{◌⊎◌, ⊎_elim}
 use Prim.Native.Nat.{ℕ}
 use Rattle.std.proofs.lemmas.Bool.{cond-false}
 use Rattle.std.specs.Prelude.{Result, Ok, Err}
@@ -17,6 +18,7 @@ use Rattle.model.specs.Calls.{Call, line, advance, read, write, notification, gr
 use Rattle.model.proofs.Refusals.{number_back}
 use Rattle.model.proofs.Calls.{accepted_as, stays_sound}
 use Rattle.commands.specs.declared.Command.{Command}
+use Rattle.commands.specs.declared.Opening.{Opening}
 use Rattle.commands.specs.declared.Command.TheVariants.{Make, Line, Advance, Read, Write, Notify, Unreadable}
 use Rattle.replaying.specs.declared.Said.{Said}
 use Rattle.replaying.specs.declared.Said.TheVariants.{Nothing, Value, Refused}
@@ -79,12 +81,10 @@ pub valued_obeyed : (letter : ℕ) {command k : Command} → command ≡ k → (
     (x : Result ℕ Refusal) → answered x t ≡ respond a s → {y : Said} → y ≡ said_of (Value letter) x → Obeyed command s t y
 valued_obeyed letter = obeyed_as (value_line letter) (Value letter) (λ v. unfold said_bytes in refl)
 
--- a line that is unreadable
-pub unreadable_obeyed : (s : State) → Obeyed Unreadable s s (Refused (number_of refusal.Unreadable))
+-- a line that asks for no call, unreadable or a later `P`: the board stays as it was, and the line prints refusal 11
+pub unreadable_obeyed : (c : Command) → ((o : Opening) × (c ≡ Make o)) ⊎ (c ≡ Unreadable) → (s t : State) (said : Said) →
+    t ≡ s → said ≡ Refused (number_of refusal.Unreadable) → Obeyed c s t said
 unfolding commanded said_bytes
-unreadable_obeyed s = refl
-
-pub told_unreadable : {command k : Command} → command ≡ k → (s : State) → Obeyed k s s (Refused (number_of refusal.Unreadable)) →
-    (n : ℕ) → n ≡ number_of refusal.Unreadable → Obeyed command s s (Refused n)
-told_unreadable e s is n same =
-    ap (λ (k : Command). commanded k s) e ∙ is ∙ (λ i. record { stand = on s; prints = said_bytes (Refused (sym same i)) })
+unreadable_obeyed c asks s t said stays is =
+    ⊎_elim (λ m. ap (λ (k : Command). commanded k s) m.1) (λ e. ap (λ (k : Command). commanded k s) e) asks
+    ∙ (λ i. record { stand = on (sym stays i); prints = said_bytes (sym is i) })

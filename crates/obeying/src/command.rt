@@ -9,7 +9,7 @@ use model::Refusal;
 use replaying::Said;
 use steps::Board;
 
-// What a line prints whose call gives no value: nothing, or its refusal.
+// What a line prints whose call gives no value: nothing, or its refusal. `Said` takes the number: `put_said` promises every one.
 #[tactic(auto, unfolding(crate::specs::Obey::said_of))]
 fn silent(answer: Result<u32, Refusal>) -> Said
     ensures { result ≡ said_of (λ _. Said.Nothing) answer }
@@ -31,7 +31,7 @@ fn valued(letter: u8, answer: Result<u32, Refusal>) -> Said
     }
 }
 
-// A command that is not the first line: a later `P` is unreadable.
+// A command that is not the first line: a later `P` is unreadable. A `match` over the grammar's cases, as Replay.commanded.
 pub fn obey(board: &mut Board, command: Command) -> Said
     ensures { Obeyed command board.old.state board.new.state result }
 {

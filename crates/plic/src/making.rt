@@ -41,7 +41,7 @@ fn fresh(shape: Shape) -> State
     }
 }
 
-// A state that is zero throughout: no board, and so not sound.
+// A state that is zero throughout: no board, and so not sound. It goes with refusal 1.
 #[tactic(auto, unfolding(model::specs::Board::zero_state, model::specs::Board::zero_shape))]
 pub fn zero() -> State
     ensures { result ≡ zero_state }
@@ -88,7 +88,8 @@ fn shape_of(n: u32, m: u32, b: u32, kinds: &[u8]) -> Result<Shape, Refusal>
 }
 
 // Makes a state of n sources, m contexts and b priority bits. Returns 0 and the fresh state, or refusal 1 and a state that is zero
-// throughout.
+// throughout. 0 is the value of an accepted make (Calls.make). The three numbers are the public face: a struct for them would be the
+// caller's to make.
 #[tactic(auto, unfolding(model::specs::Refusals::answered, model::specs::Refusals::answer_number, model::specs::Refusals::answer_values, model::specs::Refusals::first_of, model::specs::Calls::bad_shape, model::specs::Calls::make))]
 pub fn make(n: u32, m: u32, b: u32, kinds: &[u8]) -> Answered
     ensures { answered result.answer result.state ≡ make n m b kinds.now }

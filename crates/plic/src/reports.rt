@@ -59,7 +59,8 @@ fn widened(counts: &[u32; BUCKET_ROOM]) -> [u64; BUCKET_ROOM]
     wider
 }
 
-// The percentile by claim. Returns the upper end of a bucket, or a refusal (2, 9, 10).
+// The percentile by claim. Returns the upper end of a bucket, or a refusal (2, 9, 10). `by_time` is its twin: what both share is
+// `percentile_of`.
 #[tactic(auto, using(crate::proofs::Unsound::unsound, crate::proofs::Reported::claim_refused, crate::proofs::Reported::claim_gives, steps::proofs::Bookings::claims_fit, leaves::proofs::Passed::percentile_passed), unfolding(model::specs::Calls::values_of, model::specs::Refusals::answer_number, model::specs::Waits::board_claims, model::specs::Waits::source_claims, model::specs::Waits::bucket_claims))]
 pub fn by_claim(state: &State, per_mille: u32) -> Result<u32, Refusal>
     ensures { answered result state.now ≡ respond (by_claim per_mille) state.now }

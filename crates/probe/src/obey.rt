@@ -43,7 +43,7 @@ fn make_opening<W: Write>(
     }
 }
 
-// A line that is no replay line.
+// A line that is no replay line. A `match` over closed cases, one line each.
 fn obey_other<W: Write>(to: &mut W, state: &mut State, line: &[u8]) -> io::Result<()> {
     let Some(asked) = parse(line) else {
         return unreadable(to);
@@ -63,7 +63,7 @@ fn obey_other<W: Write>(to: &mut W, state: &mut State, line: &[u8]) -> io::Resul
     }
 }
 
-// A line without its line feed.
+// A line without its line feed. A `match` over closed cases, one line each.
 pub(crate) fn obey<W: Write>(to: &mut W, state: &mut State, line: &[u8]) -> io::Result<()> {
     match commands::parse(line) {
         Command::Make(opening) => make_opening(to, state, opening, line),

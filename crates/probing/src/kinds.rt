@@ -1,4 +1,4 @@
-// The kind bytes of a `P`: letters, or pairs of hex digits.
+// The kind bytes of a `P`: letters, or pairs of hex digits. They are read here: this library uses no crate of the parser or of the replay.
 use crate::words::hex_worth;
 use arrayvec::ArrayVec;
 use limits::LINE_ROOM;

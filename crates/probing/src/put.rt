@@ -9,7 +9,8 @@ fn set<T: Copy>(row: &mut [T], i: usize, value: Option<T>) -> Option<()> {
     Some(())
 }
 
-// Puts v into a field at an index; none, and nothing is put, where the field has no such index or v does not fit it.
+// Puts v into a field at an index; none, and nothing is put, where the field has no such index or v does not fit it. A `match` over closed
+// cases, one line each.
 pub fn put(state: &mut State, field: Field, i: usize, v: u64) -> Option<()> {
     let byte = u8::try_from(v).ok();
     let word = u32::try_from(v).ok();

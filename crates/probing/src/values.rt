@@ -7,6 +7,7 @@ fn value_at<T: Copy + Into<u64>>(row: &[T], i: usize) -> u64 {
     row.get(i).map_or(0, |value| (*value).into())
 }
 
+// A number for every index: it is public, and it cannot fail. A `match` over closed cases, one line each.
 pub fn value_of(state: &State, field: Field, i: usize) -> u64 {
     match field {
         Field::Sources => value_at(slice::from_ref(&state.shape.sources), i),

@@ -1,4 +1,5 @@
-// Words of a line: where the first one ends, the number that a word gives, and what a hex digit is worth.
+// Words of a line: where the first one ends, the number that a word gives, and what a hex digit is worth. They are read here: this library
+// uses no crate of the parser, and its numbers have 64 bits.
 ghost use Rattle.std.specs.Prelude.{◌≡◌, ◌+◌, ◌<◌, length, IfSome};
 
 // What stands before the first space of a line, and what stands after it.

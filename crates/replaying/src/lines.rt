@@ -9,8 +9,9 @@ fn feed_in(bytes: &[u8]) -> Option<usize>
     bytes.iter().position(|b| *b == b'\n')
 }
 
-// The place of the line feed that ends the line from a place on; the end of the input where there is none. Eight bytes a turn, in
-// 2.5 instructions a byte where `position` alone takes 5. `memchr` takes 54 for any short line, and this 46 for one of 10 bytes.
+// The place of the line feed that ends the line from a place on; the end of the input where there is none, as Pieces.line_length. Eight
+// bytes a turn, in 2.5 instructions a byte where `position` alone takes 5. `memchr` takes 54 for any short line, and this 46 for one of 10
+// bytes.
 #[tactic(auto, using(crate::proofs::Eights::eight_steps))]
 pub fn line_end(input: &[u8], from: usize) -> usize
     ensures { result ≡ from + line_length (drop from input.now) }

@@ -1,4 +1,5 @@
-// The text of a line of output, put into lent bytes from a place on. Leaves: bytes and numbers only.
+// The text of a line of output, put into lent bytes from a place on. Leaves: bytes and numbers only. No `write!`: every byte of what is
+// lent is promised (Text.put). The output and a place go on side by side: they are what `put_said` and `put_totals` are given.
 ghost use Rattle.std.specs.Prelude.{◌≡◌, ℕ, ◌+◌, ◌≤◌, ◌<◌, length, [], ◌∷◌, ◌++◌};
 ghost use Rattle.replaying.specs.Replay.{digits, totals_line};
 ghost use Rattle.replaying.specs.Text.{Written, said_bytes, put};
@@ -56,7 +57,7 @@ fn put_line(word: &[u8], v: u64, output: &mut [u8], at: usize) -> usize
 }
 
 // Puts what a line prints at a place of the output and returns the place after it; where fewer than 20 bytes are free there, it
-// leaves the output and returns the place.
+// leaves the output and returns the place, as Text.put. A `match` over closed cases.
 pub fn put_said(said: Said, output: &mut [u8], at: usize) -> usize
     ensures { (record { bytes = output.new; end = result } ≡ put 20 (said_bytes said) output.old at) × (result ≤ at + 20) }
 {
@@ -71,7 +72,7 @@ pub fn put_said(said: Said, output: &mut [u8], at: usize) -> usize
 }
 
 // Puts the last line of a replay at a place of the output and returns the place after it; where fewer than 128 bytes are free there,
-// it leaves the output and returns the place.
+// it leaves the output and returns the place, as Text.put. Four numbers, and no `Totals`: every four are promised.
 pub fn put_totals(
     clock: u64,
     claims: u64,

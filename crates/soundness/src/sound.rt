@@ -1,6 +1,6 @@
-// Whether a state is sound: each clause of the definition, computed on any contents. Nothing rolls over. The tests on a source are joined by
-// `&`, and no source ends the fold over them: with no branch the compiler tests several sources at a time. `&&` or `all` there took twice
-// the instructions.
+// Whether a state is sound: each clause of the definition, computed on any contents. Nothing rolls over. The tests on a source are joined
+// by `&`, and no source ends the fold over them: with no branch the compiler tests several sources at a time. `&&` or `all` there took
+// twice the instructions. What is asked of n and b has just been tested by `within_limits`.
 ghost use Rattle.std.specs.Prelude.{◌≡◌, ◌-◌, ◌*◌, ◌^◌, ◌≤◌, ◌<◌, Bool, ◌&&◌, leb, eqb, get_or};
 ghost use Rattle.limits.specs.Limits.{source_room, last_source, context_room, word_room, bucket_room, most_bits};
 ghost use Rattle.laws.specs.Fold.{sum_to, all_to};
@@ -126,7 +126,8 @@ fn are_contexts_sound(state: &State) -> bool
     (0..CONTEXT_ROOM).all(|c| is_context_sound(state, c))
 }
 
-// Whether the buckets' ticks come to a total: each is taken off what is left of it, so that no sum is formed that could not fit.
+// Whether the buckets' ticks come to a total: each is taken off what is left of it, so that no sum is formed that could not fit. A loop: of
+// `try_fold` no proof was found.
 #[tactic(auto, using(laws::proofs::Fold::sum_more), unfolding(laws::specs::Fold::sum_to))]
 fn ticks_come_to(ticks: &[u64; BUCKET_ROOM], total: u64) -> bool
     ensures { result ≡ eqb total (sum_to (λ k. get_or ticks.now k 0) bucket_room) }

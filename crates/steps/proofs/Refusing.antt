@@ -10,7 +10,7 @@ use Rattle.model.specs.declared.State.{State}
 use Rattle.model.specs.declared.Refusal.{Refusal}
 use Rattle.model.specs.declared.Refusal.TheVariants.{NotSound}
 use Rattle.model.specs.Waits.{board_claims, board_waited}
-use Rattle.model.specs.Refusals.{number_of, answer_number, answer_values, answered, Ground, first_of}
+use Rattle.model.specs.Refusals.{number_of, Outcome, answer_number, answer_values, answered, Ground, first_of}
 use Rattle.model.specs.Sound.{sound, Sound}
 use Rattle.model.proofs.Sound.{sound_test}
 use Rattle.model.specs.Calls.{Call, line, advance, read, write, notification, mean, by_claim, by_time, totals}
@@ -82,10 +82,14 @@ module _ {a : Call} {s : State} {own : List Ground} (owns : Owns a s own) where
     pub says_refused : (r : Refusal) → So (sound s) → first_of own ≡ number_of r → answered (Err r) s ≡ respond a s
     says_refused r t e = refused_alike r (own_number t ∙ e)
 
-  pub says_accepted : So (sound s) → first_of own ≡ 0 → (v : ℕ) → values_of a s ≡ v ∷ [] → answered (Ok v) (after a s) ≡ respond a s
+  pub says_accepted : (o : Outcome) → So (sound s) → first_of own ≡ 0 → o ≡ record { number = 0; values = values_of a s; state = after a s } → o ≡ respond a s
+  says_accepted o t e is = is ∙ sym (accepted_as a s (own_number t ∙ e))
+
+  -- the same of a call that gives one value
+  pub says_given : So (sound s) → first_of own ≡ 0 → (v : ℕ) → values_of a s ≡ v ∷ [] → answered (Ok v) (after a s) ≡ respond a s
   unfolding answered answer_number answer_values
-  says_accepted t e v is =
-      (λ i. record { number = 0; values = sym is i; state = after a s }) ∙ sym (accepted_as a s (own_number t ∙ e))
+  says_given t e v is =
+      says_accepted (answered (Ok v) (after a s)) t e (λ i. record { number = 0; values = sym is i; state = after a s })
 
 -- a sound state with a step left
 pub ready : {s : State} → Sound s → s.steps < 4294967295 → Ready s
@@ -98,7 +102,7 @@ module _ {a : Call} {s : State} {own : List Ground} (owns : Owns a s own) (singl
 
   module _ (none : 0 ≡ first_of own) (t : State) (is : t ≡ after a s) where
     pub board_accepted : (w : ℕ) → values_of a s ≡ w ∷ [] → answered (Ok w) t ≡ respond a s
-    board_accepted w gives = ap (answered (Ok w)) is ∙ says_accepted owns (sound_test s f) (sym none) w gives
+    board_accepted w gives = ap (answered (Ok w)) is ∙ says_given owns (sound_test s f) (sym none) w gives
 
     pub board_stays : Sound t
     unfolding respond

@@ -1,4 +1,4 @@
--- A state as the arrays that a step is lent, so that a step in place can be promised by the model's definitions.
+-- What a step does to the arrays of a state, as lists: the words of `Whole`. And a sound state with a step left, which a step asks for.
 -- Assumes nothing.
 use Rattle.std.specs.Prelude.{◌≡◌, Bool, cond, List, [], ◌∷◌, ℕ, ◌+◌, ◌-◌, ◌*◌, ◌%◌, ◌^◌, ◌≤◌, ◌<◌, eqb, get_or, set}
 use Rattle.std.proofs.Math.Bool.{So}
@@ -23,23 +23,6 @@ requests_of stage line extra start = record { stage = stage; line = line; extra 
 
 abbrev pub settings_of : List ℕ → List ℕ → List ℕ → Settings
 settings_of priority enable threshold = record { priority = priority; enable = enable; threshold = threshold }
-
-abbrev pub counts_of : List ℕ → List ℕ → Counts
-counts_of claims waited = record { claims = claims; waited = waited }
-
-abbrev pub buckets_of : List ℕ → List ℕ → Buckets
-buckets_of claims ticks = record { claims = claims; ticks = ticks }
-
-abbrev pub state_of : ℕ → ℕ → ℕ → List ℕ → ℕ → ℕ → Settings → Requests → Counts → Buckets → State
-state_of n m b kind clock steps settings requests counts buckets = record {
-  shape = record { sources = n; contexts = m; bits = b; kind = kind };
-  clock = clock;
-  steps = steps;
-  settings = settings;
-  requests = requests;
-  counts = counts;
-  buckets = buckets;
-}
 
 -- a sound state in which one step more may be taken
 pub record Ready (s : State) : Type 0 where

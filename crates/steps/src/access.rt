@@ -1,4 +1,5 @@
-// A read or a write of a register of the map, in the state that is lent.
+// A read or a write of a register of the map, in the state that is lent. A `match`, case by case as the definitions. `Ready` and `Within`
+// are what the two lines before in `Board` have found.
 ghost use Rattle.std.specs.Prelude.{◌≡◌};
 ghost use Rattle.model.specs.Registers.{read_of, after_read, after_write};
 ghost use Rattle.leaves.specs.Leaves.{Within};

@@ -1,4 +1,5 @@
-// A sound state, and the calls on it: what a public call goes on once it has checked its state, and a batch without any further check.
+// A sound state, and the calls on it: what a public call goes on once it has checked its state, and a batch without any further check. An
+// accepted step that has nothing to give gives 0 (Calls.values_of): one type for every call.
 ghost use Rattle.std.specs.Prelude.{◌≡◌, IfOk, IfErr, Ok, false};
 ghost use Rattle.model.specs.declared.Refusal.TheVariants.{NotSound};
 ghost use Rattle.model.specs.Refusals.{answered, totals_values};

@@ -25,7 +25,7 @@ fn book(counts: &mut Counts, buckets: &mut Buckets, i: usize, w: u32)
     buckets.ticks[k] += u64::from(w);
 }
 
-// A claim by context c: the winner goes into service and its wait is booked; 0 where nothing is eligible.
+// A claim by context c: the winner goes into service and its wait is booked; 0 where nothing is eligible. 0 for nobody is document 01's.
 #[tactic(auto, unfolding(model::specs::Life::claim_by, model::specs::Life::claim_of, model::specs::Life::served, model::specs::Board::with_request, model::specs::Board::with_counts, model::specs::Waits::wait))]
 pub(crate) fn claim(state: &mut State, c: usize) -> usize
     requires ready { Ready state.old }

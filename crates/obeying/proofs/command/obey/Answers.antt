@@ -1,9 +1,8 @@
-use Rattle.std.proofs.Common.{refl}
-use mathlib.Core.Logic.{⊎_elim}
+use Rattle.std.proofs.Common.{refl, ap}
 use Rattle.model.specs.Calls.{line, advance, read, write, notification}
 use Rattle.replaying.specs.Replay.{commanded}
-use Rattle.replaying.specs.Text.{said_bytes}
-use Rattle.obeying.proofs.Obeyed.{silent_obeyed, valued_obeyed, told_unreadable}
+use Rattle.replaying.specs.declared.Said.TheVariants.{Refused}
+use Rattle.obeying.proofs.Obeyed.{silent_obeyed, valued_obeyed, unreadable_obeyed}
 use Rattle.obeying.proofs.command.obey.Goals as goal
 
 pub returns-in-Line : goal.returns-in-Line
@@ -27,10 +26,6 @@ unfolding commanded
 returns-in-Notify c = valued_obeyed 78 c.in-Notify.is (notification c.in-Notify.context) _ _ refl _ c.notification.ensures c.valued-in-Notify.ensures
 
 pub returns-in-Make : goal.returns-in-Make
-unfolding commanded said_bytes
 returns-in-Make c =
     let s = c.args.board.now.state in
-    ⊎_elim
-    (λ m. told_unreadable m.1 s refl _ c.number_of.ensures)
-    (λ e. told_unreadable e s refl _ c.number_of.ensures)
-    c.in-Make.is
+    unreadable_obeyed c.args.command c.in-Make.is s s (Refused c.number_of.result) refl (ap Refused c.number_of.ensures)
