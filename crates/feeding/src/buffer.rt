@@ -10,7 +10,7 @@ use limits::HELD_ROOM;
 // As many bytes of a line as a replay holds, in memory that does not grow.
 pub(crate) type Held = ArrayVec<u8, HELD_ROOM>;
 
-// Adds bytes to those that are held, as far as there is room.
+// Adds bytes to those that are held, as far as there is room: a part of the line at a time.
 fn append(line: &mut Held, more: &[u8])
     ensures { line.new.items ≡ take held_room (line.old.items ++ more.now) }
 {
@@ -38,7 +38,7 @@ pub(crate) fn with_zeros(line: &Held) -> [u8; HELD_ROOM]
 }
 
 // A line in two parts, with its line feed. A line that leaves no room for it is too long, and unreadable as an empty line is, which
-// stands for it.
+// stands for it: so all lines go one way.
 pub(crate) fn with_line_feed(first: &[u8], more: &[u8]) -> Held
     ensures { result.items ≡ stand_in (first.now ++ more.now) ++ (10 ∷ []) }
 {

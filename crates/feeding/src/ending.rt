@@ -29,7 +29,7 @@ fn put_board(board: &Board, output: &mut [u8], at: usize) -> usize
     )
 }
 
-// The last line of output, by where the replay stands.
+// The last line of output, by where the replay stands: a `match` over the three places. `Said` takes the refusal's number.
 fn put_closing(replay: &Replaying, output: &mut [u8], at: usize) -> usize
     requires { (at + 128 ≤ length output.old) × SoundAt (stand_of replay.now.place replay.now.state) }
     ensures { Written output.old output.new at result (closing (stand_of replay.now.place replay.now.state)) }

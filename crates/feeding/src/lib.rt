@@ -1,5 +1,5 @@
-// Feeding a replay: a batch over the steps. A piece of a script is obeyed on arrays that hold a sound state; soundness is checked once
-// for a piece, and no command copies the state. Nothing public here asks anything of its caller.
+// Feeding a replay: a batch over the steps. A piece of a script is obeyed on a board; soundness is checked once for a piece, and no
+// command copies the state. Nothing public here asks anything of its caller.
 #![tactic(auto)]
 
 mod buffer;

@@ -8,7 +8,8 @@ ghost use Rattle.replaying.specs.Replay.{kind_byte, kind_bytes, started, first_l
 use crate::buffer::Held;
 use model::{Answered, Kind, Refusal};
 
-// A kind's letter as its byte.
+// A kind's letter as its byte, as the replay's definition (Replay.kind_byte): the letters of a line that was read are kinds. The probe has
+// its own, which answers none for other letters.
 #[tactic(auto, unfolding(replaying::specs::Replay::kind_byte))]
 fn kind_byte(letter: u8) -> u8
     ensures { result ≡ kind_byte letter }

@@ -1,4 +1,5 @@
-// Feeding a replay: a piece of a script, as lent bytes, taken to the replay that is held, and what it prints put into lent bytes.
+// Feeding a replay: a piece of a script, as lent bytes, taken to the replay that is held, and what it prints put into lent bytes. Both
+// are lent by the caller of `feed`, and the bounds here are of these two slices.
 ghost use Rattle.std.specs.Prelude.{◌≡◌, [], ◌*◌, ◌≤◌, length};
 ghost use Rattle.std.proofs.Math.Bool.{So};
 ghost use Rattle.replaying.specs.Replay.{before, on};
@@ -36,7 +37,7 @@ fn feed_board(board: Board, begun: &[u8], input: &[u8], output: &mut [u8]) -> Pr
     feed_lines(board, &input[end + 1..], output, first.written)
 }
 
-// A piece before the end of the first line.
+// A piece before the end of the first line. `Said` takes the refusal's number: `put_said` promises every one.
 fn feed_first(begun: &[u8], input: &[u8], output: &mut [u8]) -> Progress
     requires { 20 * length input.now ≤ length output.old }
     ensures { Feeds (begun_at before begun.now) input.now output.old output.new 0 result }
@@ -56,7 +57,7 @@ fn feed_first(begun: &[u8], input: &[u8], output: &mut [u8]) -> Progress
     }
 }
 
-// A piece, wherever its replay stands.
+// A piece, wherever its replay stands: a `match` over the three places.
 pub(crate) fn feed_part(replay: &Replaying, input: &[u8], output: &mut [u8]) -> Progress
     requires { So (fit replay.now) × (20 * length input.now ≤ length output.old) }
     ensures { Feeds (shown replay.now) input.now output.old output.new 0 result }

@@ -10,7 +10,7 @@ use limits::HELD_ROOM;
 use model::State;
 use replaying::{Place, Replaying};
 
-// The replay after a piece, and the place in the output after what it printed.
+// The replay after a piece, and the place in the output, which is lent, after what it printed.
 #[derive(Clone, Copy)]
 pub(crate) struct Progress {
     pub(crate) replay: Replaying,
