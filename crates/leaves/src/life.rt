@@ -1,8 +1,10 @@
 // The life of one request, by value: a change of its line, and a completion. Leaves: no arrays, no state. They are on the bytes that a
 // state holds, with the arguments of the definitions.
-ghost use Rattle.std.specs.Prelude.{◌≡◌};
+ghost use Rattle.std.specs.Prelude.{◌≡◌, cond, ◌+◌, ltb};
+ghost use Rattle.limits.specs.Limits.{most_edges};
 ghost use Rattle.model.specs.Life.{level_changed, edge_changed, line_changed, completed};
 
+use limits::MOST_EDGES;
 use model::{Kind, Request, Stage};
 
 // A level source: idle with the line high becomes pending at once.
@@ -19,6 +21,13 @@ fn level_changed(clock: u32, level: bool, r: Request) -> Request
         };
     }
     Request { line: level, ..r }
+}
+
+// One edge more, staying at the most once there. By hand: `saturating_add` would stay at the most of a byte, and not at that of `limits`.
+fn one_more(extra: u8) -> u8
+    ensures { result ≡ cond (ltb extra most_edges) (extra + 1) extra }
+{
+    if extra < MOST_EDGES { extra + 1 } else { extra }
 }
 
 // An edge source: a change from low to high makes it pending if idle, and counts for kind 2 otherwise.
@@ -38,7 +47,7 @@ fn edge_changed(kind: u8, clock: u32, level: bool, r: Request) -> Request
         if kind == Kind::Counting as u8 {
             return Request {
                 line: level,
-                extra: r.extra.saturating_add(1),
+                extra: one_more(r.extra),
                 ..r
             };
         }

@@ -5,22 +5,13 @@ mod asked;
 mod lines;
 mod obey;
 mod reply;
+#[cfg(test)]
+mod tests;
 
 use crate::lines::obey_lines;
-use std::io;
-use std::io::{BufReader, BufWriter};
+use probing::out::Out;
 
-// How much is read at once, and how much is kept back until it is written.
-const BLOCK: usize = 4096;
-
-// A write that failed has closed the output: nothing more is read, and what is kept back is let go.
-fn main(rt: HostRuntime) -> io::Result<()> {
-    let alloc = rt.alloc();
-    let mut input = BufReader::with_capacity(alloc, BLOCK, rt.stdin())?;
-    let mut output = BufWriter::with_capacity(alloc, BLOCK, rt.stdout())?;
-    let mut line = Vec::with_capacity(alloc, limits::HELD_ROOM)?;
-    if obey_lines(&mut input, &mut output, &mut line).is_err() {
-        let _ = output.into_parts();
-    }
-    Ok(())
+// A write that failed has closed the output: nothing more is read, and it is no error of its own.
+fn main(rt: HostRuntime) {
+    let _ = obey_lines(&mut rt.stdin(), &mut Out::new(rt.stdout()));
 }

@@ -5,12 +5,13 @@ use commands::{Command, Opening};
 use model::State;
 use probing::kinds::of_letters;
 use probing::look::look;
-use probing::put::put;
+use probing::out::Out;
+use probing::put::put_fitting;
 use std::io;
 use std::io::Write;
 
 // A refused make leaves the state at hand zero throughout.
-fn make<W: Write>(to: &mut W, state: &mut State, board: &Board) -> io::Result<()> {
+fn make<W: Write>(to: &mut Out<W>, state: &mut State, board: &Board) -> io::Result<()> {
     let made = plic::make(
         board.sources,
         board.contexts,
@@ -27,12 +28,12 @@ fn board_of(opening: Opening, line: &[u8]) -> Option<Board> {
         sources: opening.sources,
         contexts: opening.contexts,
         bits: opening.bits,
-        kinds: of_letters(line.get(opening.kinds..)?)?,
+        kinds: of_letters(line.get(opening.kinds..)?),
     })
 }
 
 fn make_opening<W: Write>(
-    to: &mut W,
+    to: &mut Out<W>,
     state: &mut State,
     opening: Opening,
     line: &[u8],
@@ -44,7 +45,7 @@ fn make_opening<W: Write>(
 }
 
 // A line that is no replay line. A `match` over closed cases, one line each.
-fn obey_other<W: Write>(to: &mut W, state: &mut State, line: &[u8]) -> io::Result<()> {
+fn obey_other<W: Write>(to: &mut Out<W>, state: &mut State, line: &[u8]) -> io::Result<()> {
     let Some(asked) = parse(line) else {
         return unreadable(to);
     };
@@ -55,7 +56,7 @@ fn obey_other<W: Write>(to: &mut W, state: &mut State, line: &[u8]) -> io::Resul
         Asked::ByTime(per_mille) => value(to, "B", plic::by_time(state, per_mille)),
         Asked::Totals => totals(to, plic::totals(state)),
         Asked::Sound => sound(to, plic::is_sound(state)),
-        Asked::Set(field, i, v) => match put(state, field, i, v) {
+        Asked::Set(field, i, v) => match put_fitting(state, field, i, v) {
             Some(()) => Ok(()),
             None => unreadable(to),
         },
@@ -64,7 +65,7 @@ fn obey_other<W: Write>(to: &mut W, state: &mut State, line: &[u8]) -> io::Resul
 }
 
 // A line without its line feed. A `match` over closed cases, one line each.
-pub(crate) fn obey<W: Write>(to: &mut W, state: &mut State, line: &[u8]) -> io::Result<()> {
+pub(crate) fn obey<W: Write>(to: &mut Out<W>, state: &mut State, line: &[u8]) -> io::Result<()> {
     match commands::parse(line) {
         Command::Make(opening) => make_opening(to, state, opening, line),
         Command::Line(source, level) => silent(to, plic::line(state, source, level)),

@@ -1,4 +1,4 @@
-// The fields of a state as the language names them: their order, their names, and how many numbers each has.
+// The fields of a state as the language names them: their order, their names, how many numbers each has, and how large those may be.
 ghost use Rattle.std.specs.Prelude.{◌+◌, ◌<◌, ◌≤◌, length};
 ghost use Rattle.limits.specs.Limits.{source_room, enable_room};
 
@@ -82,6 +82,19 @@ impl Field {
             Field::Threshold => CONTEXT_ROOM,
             Field::BucketClaims | Field::BucketTicks => BUCKET_ROOM,
             _ => SOURCE_ROOM,
+        }
+    }
+
+    // The largest value that fits the field.
+    pub fn last_value(self) -> u64
+        ensures { 0 < result }
+    {
+        match self {
+            Field::Line => 1,
+            Field::Kind | Field::Stage | Field::Extra | Field::Priority | Field::Threshold =>
+                u64::from(u8::MAX),
+            Field::BucketTicks => u64::MAX,
+            _ => u64::from(u32::MAX),
         }
     }
 }

@@ -1,28 +1,27 @@
 // The kind bytes of a `P`: letters, or pairs of hex digits. They are read here: this library uses no crate of the parser or of the replay.
 use crate::words::hex_worth;
 use arrayvec::ArrayVec;
-use limits::LINE_ROOM;
+use limits::HELD_ROOM;
 use model::Kind;
 
-// As many as a line can hold.
-pub type Kinds = ArrayVec<u8, LINE_ROOM>;
+// As many as are held of a line. There is no room for more: those are dropped.
+pub type Kinds = ArrayVec<u8, HELD_ROOM>;
 
-fn kind_of(letter: u8) -> Option<Kind> {
+fn kind_of(letter: u8) -> Kind {
     match letter {
-        b'l' => Some(Kind::Level),
-        b'e' => Some(Kind::Edge),
-        b'c' => Some(Kind::Counting),
-        _ => None,
+        b'l' => Kind::Level,
+        b'e' => Kind::Edge,
+        _ => Kind::Counting,
     }
 }
 
-// The kinds that the letters l, e, c stand for; none where other letters are there.
-pub fn of_letters(letters: &[u8]) -> Option<Kinds> {
+// The kinds that the letters l, e, c stand for. It cannot fail: any other letter is taken as c, and the parser lets none through.
+pub fn of_letters(letters: &[u8]) -> Kinds {
     let mut kinds = Kinds::new();
     for letter in letters {
-        kinds.try_push(kind_of(*letter)? as u8).ok()?;
+        let _ = kinds.try_push(kind_of(*letter) as u8);
     }
-    Some(kinds)
+    kinds
 }
 
 // The bytes that one or more pairs of hex digits stand for; none where that is not what is there.
@@ -33,7 +32,7 @@ pub fn of_pairs(digits: &[u8]) -> Option<Kinds> {
             return None;
         };
         let kind = hex_worth(*high)? * 16 + hex_worth(*low)?;
-        kinds.try_push(kind).ok()?;
+        let _ = kinds.try_push(kind);
     }
     if kinds.is_empty() { None } else { Some(kinds) }
 }

@@ -1,7 +1,6 @@
-// Looking into a field: its value at an index, 0 past its last.
+// Looking into a field: its value at an index, 0 past its last. A field of one number has it at every index.
 use crate::fields::Field;
 use model::State;
-use std::slice;
 
 fn value_at<T: Copy + Into<u64>>(row: &[T], i: usize) -> u64 {
     row.get(i).map_or(0, |value| (*value).into())
@@ -10,11 +9,11 @@ fn value_at<T: Copy + Into<u64>>(row: &[T], i: usize) -> u64 {
 // A number for every index: it is public, and it cannot fail. A `match` over closed cases, one line each.
 pub fn value_of(state: &State, field: Field, i: usize) -> u64 {
     match field {
-        Field::Sources => value_at(slice::from_ref(&state.shape.sources), i),
-        Field::Contexts => value_at(slice::from_ref(&state.shape.contexts), i),
-        Field::Bits => value_at(slice::from_ref(&state.shape.bits), i),
-        Field::Clock => value_at(slice::from_ref(&state.clock), i),
-        Field::Steps => value_at(slice::from_ref(&state.steps), i),
+        Field::Sources => u64::from(state.shape.sources),
+        Field::Contexts => u64::from(state.shape.contexts),
+        Field::Bits => u64::from(state.shape.bits),
+        Field::Clock => u64::from(state.clock),
+        Field::Steps => u64::from(state.steps),
         Field::Kind => value_at(&state.shape.kind, i),
         Field::Stage => value_at(&state.requests.stage, i),
         Field::Line => value_at(&state.requests.line, i),

@@ -1,6 +1,6 @@
 -- The digits of a number and how many there are; and text written part by part.
 -- Assumes nothing.
-use Rattle.std.proofs.Common.{◌≡◌, ◌∙◌, refl, sym, ap, ℕ, ◌+◌, ◌*◌, ◌^◌, ◌≤◌, ◌<◌, List, ◌++◌, length, take, drop, length-append, append_assoc, take-append-drop, pow-suc, ⊎_elim, drop-drop, add-one, arith, lit≤, lt-ltb, le-ltb, le-leb, decimal}
+use Rattle.std.proofs.Common.{◌≡◌, ◌∙◌, refl, sym, ap, ℕ, ◌+◌, ◌*◌, ◌^◌, ◌≤◌, ◌<◌, List, [], ◌∷◌, ◌++◌, length, take, drop, length-append, append_assoc, take-append-drop, pow-suc, ⊎_elim, drop-drop, add-one, arith, lit≤, lt-ltb, le-ltb, le-leb, decimal}
 use Rattle.std.proofs.Math.Nat.{pow-le-pow_right}
 use Rattle.std.proofs.Math.Seq.{length-sets}
 use Rattle.std.proofs.lemmas.Bool.{lt-leb, cases_lt, cond-true, cond-false}
@@ -27,10 +27,14 @@ digits_narrow n h = let small : n < 2 ^ 64 = omega arith in omega (arith, ap len
 pub digits_wide : (n : ℕ) → n < 2 ^ 64 → length (digits n) ≤ 20
 digits_wide n h = omega (arith, ap length (digits_are n h), length-decimal-le 20 n (omega arith) (omega (arith, h)) h)
 
+-- the digit of a number below ten
+pub digits_one : (n : ℕ) → n < 10 → digits n ≡ (48 + n) ∷ []
+unfolding digits digits_in
+digits_one n h = cond-true _ _ _ (lt-ltb n 10 h)
+
 -- how many there are, by the power of ten that the number reaches
 pub width_one : (n : ℕ) → n < 10 → length (digits n) ≡ 1
-unfolding digits digits_in
-width_one n h = ap length (cond-true _ _ _ (lt-ltb n 10 h))
+width_one n h = ap length (digits_one n h)
 
 width_least : (n k : ℕ) → n < 2 ^ 64 → 10 ^ k ≤ n → k < length (digits n)
 width_least n k h least =

@@ -26,13 +26,17 @@ fn width(v: u64) -> usize
     if v < 10 { 1 } else { v.ilog10() as usize + 1 }
 }
 
-// A number in decimal. Returns the place after it.
+// A number in decimal. Returns the place after it. One digit is put by itself: `write_digits` takes half as many instructions more for it.
 fn put_digits(v: u64, output: &mut [u8], at: usize) -> usize
     requires { at + length (digits v) ≤ length output.old }
     ensures { Written output.old output.new at result (digits v) }
 {
     let end = at + width(v);
-    write_digits(v, output, end);
+    if v < 10 {
+        output[at] = b'0' + v as u8;
+    } else {
+        write_digits(v, output, end);
+    }
     end
 }
 
