@@ -26,18 +26,28 @@ fn width(v: u64) -> usize
     if v < 10 { 1 } else { v.ilog10() as usize + 1 }
 }
 
-// A number in decimal. Returns the place after it. One digit is put by itself: `write_digits` takes half as many instructions more for it.
-fn put_digits(v: u64, output: &mut [u8], at: usize) -> usize
+// A number in decimal, of any number of digits. Returns the place after it.
+fn put_all_digits(v: u64, output: &mut [u8], at: usize) -> usize
     requires { at + length (digits v) ≤ length output.old }
     ensures { Written output.old output.new at result (digits v) }
 {
     let end = at + width(v);
+    write_digits(v, output, end);
+    end
+}
+
+// A number in decimal. Returns the place after it. One digit, which is common, is put here: a call and `write_digits` take half as many
+// instructions more for it.
+#[inline(always)]
+fn put_digits(v: u64, output: &mut [u8], at: usize) -> usize
+    requires { at + length (digits v) ≤ length output.old }
+    ensures { Written output.old output.new at result (digits v) }
+{
     if v < 10 {
         output[at] = b'0' + v as u8;
-    } else {
-        write_digits(v, output, end);
+        return at + 1;
     }
-    end
+    put_all_digits(v, output, at)
 }
 
 // A word and a number after it. Returns the place after them.
@@ -61,7 +71,9 @@ fn put_line(word: &[u8], v: u64, output: &mut [u8], at: usize) -> usize
 }
 
 // Puts what a line prints at a place of the output and returns the place after it; where fewer than 20 bytes are free there, it
-// leaves the output and returns the place, as Text.put. A `match` over closed cases.
+// leaves the output and returns the place, as Text.put. A `match` over closed cases. Inlined, since a call takes as many instructions as a
+// short answer.
+#[inline(always)]
 pub fn put_said(said: Said, output: &mut [u8], at: usize) -> usize
     ensures { (record { bytes = output.new; end = result } ≡ put 20 (said_bytes said) output.old at) × (result ≤ at + 20) }
 {
