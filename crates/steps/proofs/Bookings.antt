@@ -17,7 +17,7 @@ use Rattle.model.specs.Sound.{Sound}
 use Rattle.model.proofs.Claim.{source_range, winner_is}
 use Rattle.model.proofs.Waits.{leading_bucket}
 use Rattle.leaves.specs.Leaves.{is_pending_in}
-use Rattle.steps.specs.Arrays.{Ready, Bookable}
+use Rattle.steps.specs.Arrays.{Ready, BookableState}
 
 -- the board's sums in a sound state fit their places
 pub claims_fit : (s : State) → Sound s → board_claims s.counts ≤ 4294967295
@@ -43,8 +43,7 @@ module _ (s : State) (ready : Ready s) where
   ticks_below k h =
       omega (arith, term_le_sum (bucket_ticks s.buckets) bucket_room k h, ready.sound.ticks_booked, waited_fit s ready.sound)
 
-  pub bookable : Bookable s.clock s.requests.stage s.requests.start s.counts.claims s.counts.waited
-      s.buckets.claims s.buckets.ticks
+  pub bookable : BookableState s
   unfolding request source_claims source_waited bucket_claims bucket_ticks
   bookable = record {
     begun = λ i h _. (ready.sound.source i h).start;
@@ -68,7 +67,7 @@ winner_facts s c w e ne =
       subst (λ (k : ℕ). So (is_pending (request s.requests k))) (sym e) won.0.pending,
     )
 
--- .. whose wait can be booked
+-- .. and where the state is bookable, its wait can be booked
 pub record Booking (s : State) (w : ℕ) (r : Request) : Type 0 where
   pub within : w < source_room
   pub begun : r.start ≤ s.clock
@@ -76,15 +75,16 @@ pub record Booking (s : State) (w : ℕ) (r : Request) : Type 0 where
       × (get_or s.buckets.claims (bucket_of (s.clock - r.start)) 0 + 1 < 4294967296)
       × (get_or s.buckets.ticks (bucket_of (s.clock - r.start)) 0 + (s.clock - r.start) < 18446744073709551616)
 
-pub winner_books : (s : State) → Ready s → (c w : ℕ) → w ≡ winner s c → (w ≡ 0 → ⊥) → (r : Request) → r ≡ request s.requests w → Booking s w r
+pub winner_books : (s : State) → s.shape.sources < source_room → BookableState s →
+    (c w : ℕ) → w ≡ winner s c → (w ≡ 0 → ⊥) → (r : Request) → r ≡ request s.requests w → Booking s w r
 unfolding is_pending request
-winner_books s ready c w e ne r is =
+winner_books s sources b c w e ne r is =
     let won = winner_facts s c w e ne in
-    let b = bookable s ready in
-    let within : w < source_room = omega (arith, won.1, ready.sound.limits.sources) in
+    let within : w < source_room = omega (arith, won.1, sources) in
     let start : r.start ≡ get_or s.requests.start w 0 = ap (λ (x : Request). x.start) is in
+    let waits : get_or s.counts.waited w 0 + (s.clock - r.start) < 4294967296 = omega (arith, start, b.waiting w within won.2) in
     let k : ℕ = bucket_of (s.clock - r.start) in
-    let leading = leading_bucket (s.clock - r.start) 32 (omega arith) (omega (arith, ready.sound.types.clock)) in
+    let leading = leading_bucket (s.clock - r.start) 32 (omega arith) (omega (arith, waits)) in
     let small : k < bucket_room = omega (arith, leading.0, leading.1) in
     record {
       within = within;
@@ -92,7 +92,7 @@ winner_books s ready c w e ne r is =
       fits = (
         within,
         b.claimed w within,
-        omega (arith, start, b.waiting w within won.2),
+        waits,
         b.number k small,
         omega (arith, b.total k small),
       );

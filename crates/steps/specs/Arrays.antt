@@ -1,4 +1,4 @@
--- What a step does to the arrays of a state, as lists: the words of `Whole`. And a sound state with a step left, which a step asks for.
+-- What a step does to the arrays of a state, as lists: the words of `Whole`. And a sound state with a step left.
 -- Assumes nothing.
 use Rattle.std.specs.Prelude.{◌≡◌, Bool, cond, List, [], ◌∷◌, ℕ, ◌+◌, ◌-◌, ◌*◌, ◌%◌, ◌^◌, ◌≤◌, ◌<◌, eqb, get_or, set}
 use Rattle.std.proofs.Math.Bool.{So}
@@ -50,6 +50,10 @@ pub record Bookable (clock : ℕ) (stage start claims waited buckets ticks : Lis
   pub waiting : (i : ℕ) → i < source_room → So (is_pending_in stage i) → get_or waited i 0 + (clock - get_or start i 0) < 4294967296
   pub number : (k : ℕ) → k < bucket_room → get_or buckets k 0 + 1 < 4294967296
   pub total : (k : ℕ) → k < bucket_room → get_or ticks k 0 + clock < 18446744073709551616
+
+-- .. of the arrays of a state
+abbrev pub BookableState : State → Type 0
+BookableState s = Bookable s.clock s.requests.stage s.requests.start s.counts.claims s.counts.waited s.buckets.claims s.buckets.ticks
 
 -- what a claim that source w wins leaves in them; nothing where w is 0
 pub record Claimed (clock w : ℕ) (stage start stage' start' : List ℕ) (counts counts' : Counts) (buckets buckets' : Buckets) : Type 0 where

@@ -1,9 +1,10 @@
-// A read or a write of a register of the map, in the state that is lent. A `match`, case by case as the definitions. `Ready` and `Within`
-// are what the two lines before in `Board` have found.
-ghost use Rattle.std.specs.Prelude.{◌≡◌};
+// A read or a write of a register of the map, in the state that is lent. A `match`, case by case as the definitions. Each asks for
+// what its cases need and no more: `Board` has that from its sound state, from the step left, and from `register_at`.
+ghost use Rattle.std.specs.Prelude.{◌≡◌, ◌≤◌};
+ghost use Rattle.limits.specs.Limits.{last_source, most_bits};
 ghost use Rattle.model.specs.Registers.{read_of, after_read, after_write};
 ghost use Rattle.leaves.specs.Leaves.{Within};
-ghost use Rattle.steps.specs.Arrays.{Ready};
+ghost use Rattle.steps.specs.Arrays.{BookableState};
 
 use crate::claims::claim;
 use crate::requests::complete_by;
@@ -14,9 +15,10 @@ use model::{Register, State};
 
 // What a read of a register gives; a read of a claim register claims.
 #[tactic(auto, unfolding(model::specs::Registers::read_of, model::specs::Registers::after_read, model::specs::Registers::pending_word, model::specs::Board::priority, model::specs::Board::enable_word, model::specs::Board::threshold))]
-pub(crate) fn read(state: &mut State, register: Register) -> u32
-    requires ready { Ready state.old }
+pub fn read(state: &mut State, register: Register) -> u32
+    requires sources { state.old.shape.sources ≤ last_source }
     requires within { Within state.old.shape.sources register }
+    requires bookable { BookableState state.old }
     ensures gives { result ≡ read_of state.old register }
     ensures leaves { state.new ≡ after_read state.old register }
 {
@@ -32,8 +34,9 @@ pub(crate) fn read(state: &mut State, register: Register) -> u32
 
 // What a write to a register does; a write to a claim register completes.
 #[tactic(auto, unfolding(model::specs::Registers::after_write, model::specs::Registers::with_priority, model::specs::Registers::with_enable, model::specs::Registers::with_threshold, model::specs::Board::with_settings))]
-pub(crate) fn write(state: &mut State, register: Register, v: u32)
-    requires ready { Ready state.old }
+pub fn write(state: &mut State, register: Register, v: u32)
+    requires sources { state.old.shape.sources ≤ last_source }
+    requires bits { state.old.shape.bits ≤ most_bits }
     requires within { Within state.old.shape.sources register }
     ensures { state.new ≡ after_write state.old register v }
 {

@@ -3,7 +3,7 @@ ghost use Rattle.std.specs.Prelude.{◌≡◌, ◌+◌, ◌<◌, get_or};
 ghost use Rattle.limits.specs.Limits.{source_room, context_room};
 ghost use Rattle.model.specs.Waits.{bucket_of, counted, booked};
 ghost use Rattle.model.specs.Life.{winner, claim_by};
-ghost use Rattle.steps.specs.Arrays.{Ready};
+ghost use Rattle.steps.specs.Arrays.{BookableState};
 
 use leaves::arbiter::winner;
 use leaves::stages::{put_request, request_of};
@@ -28,8 +28,9 @@ fn book(counts: &mut Counts, buckets: &mut Buckets, i: usize, w: u32)
 // A claim by context c: the winner goes into service and its wait is booked; 0 where nothing is eligible. 0 for nobody is document 01's.
 #[tactic(auto, unfolding(model::specs::Life::claim_by, model::specs::Life::claim_of, model::specs::Life::served, model::specs::Board::with_request, model::specs::Board::with_counts, model::specs::Waits::wait))]
 pub(crate) fn claim(state: &mut State, c: usize) -> usize
-    requires ready { Ready state.old }
+    requires sources { state.old.shape.sources < source_room }
     requires context { c < context_room }
+    requires bookable { BookableState state.old }
     ensures gives { result ≡ winner state.old c }
     ensures leaves { state.new ≡ claim_by state.old c }
     ensures within { result < source_room }

@@ -10,7 +10,7 @@ use model::State;
 
 // Source i's line is set to a level.
 #[tactic(auto, unfolding(model::specs::Life::line_change, model::specs::Board::with_request, model::specs::Board::kind_of))]
-pub(crate) fn set_line(state: &mut State, i: usize, level: bool)
+pub fn set_line(state: &mut State, i: usize, level: bool)
     requires { i < source_room }
     ensures { state.new ≡ line_change state.old i level }
 {

@@ -4,7 +4,8 @@ use Rattle.model.specs.Refusals.{answer_number}
 use Rattle.model.specs.Board.{with_steps}
 use Rattle.model.specs.Calls.{values_of}
 use Rattle.leaves.proofs.Passed.{step_passed}
-use Rattle.steps.proofs.Refusing.{read_owns, board_refused}
+use Rattle.steps.proofs.Refusing.{read_owns, ready, board_refused}
+use Rattle.steps.proofs.Bookings.{bookable}
 use Rattle.steps.proofs.Boards.{read_made, read_gives}
 use Rattle.steps.proofs.board.Board.read.Goals as goal
 
@@ -14,10 +15,9 @@ returns-in_err-access_check c =
     let p = err_from_is_err_and c.from_residual.result c.from_residual.ensures.1 in
     rw (p.1, p.2) (board_refused (read_owns c.args.self.now.state c.args.offset) refl c.args.self.now.sound _ c.in_err-access_check.ensures)
 
-pub read-value-requires-clause-ready : goal.read-value-requires-clause-ready
+pub read-value-requires-clause-bookable : goal.read-value-requires-clause-bookable
 unfolding answer_number
-read-value-requires-clause-ready c =
-    record { sound = c.args.self.now.sound; room = (step_passed _ _ (sym c.in_ok-access_check.ensures)).0 }
+read-value-requires-clause-bookable c = bookable _ (ready c.args.self.now.sound (step_passed _ _ (sym c.in_ok-access_check.ensures)).0)
 
 pub overflow_add-self : goal.overflow_add-self
 unfolding answer_number

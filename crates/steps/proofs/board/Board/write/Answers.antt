@@ -1,9 +1,8 @@
-use Rattle.std.proofs.Common.{refl, sym, arith}
+use Rattle.std.proofs.Common.{refl, arith}
 use Rattle.std.proofs.lemmas.Result.{err_from_is_err_and}
 use Rattle.model.specs.Refusals.{answer_number}
 use Rattle.model.specs.Board.{with_steps}
 use Rattle.model.specs.Calls.{values_of}
-use Rattle.leaves.proofs.Passed.{step_passed}
 use Rattle.steps.proofs.Refusing.{write_owns, board_refused}
 use Rattle.steps.proofs.Boards.{write_made}
 use Rattle.steps.proofs.board.Board.write.Goals as goal
@@ -13,11 +12,6 @@ unfolding values_of answer_number
 returns-in_err-access_check c =
     let p = err_from_is_err_and c.from_residual.result c.from_residual.ensures.1 in
     rw (p.1, p.2) (board_refused (write_owns c.args.self.now.state c.args.offset c.args.value) refl c.args.self.now.sound _ c.in_err-access_check.ensures)
-
-pub write-requires-clause-ready : goal.write-requires-clause-ready
-unfolding answer_number
-write-requires-clause-ready c =
-    record { sound = c.args.self.now.sound; room = (step_passed _ _ (sym c.in_ok-access_check.ensures)).0 }
 
 pub overflow_add-self : goal.overflow_add-self
 unfolding answer_number
