@@ -4,10 +4,10 @@ use Rattle.std.proofs.Common.{◌≡◌, ◌∙◌, refl, sym, ap, ℕ, ◌+◌,
 use Rattle.std.proofs.lemmas.Bool.{cond-true, cond-false}
 use Rattle.std.specs.Bool.{then_some}
 use Rattle.commands.specs.declared.Opening.{Opening}
-use Rattle.commands.specs.declared.Command.TheVariants.{Line, Write}
+use Rattle.commands.specs.declared.Command.TheVariants.{Line, Write, Unreadable}
 use Rattle.commands.specs.declared.scan.Word.{Word}
 use Rattle.commands.specs.Grammar.{is_number, decimal, no_needless_zero, is_offset, hex, is_byte, is_kinds, words}
-use Rattle.commands.specs.Leaves.{number_at, offset_at, valued, ended, last_word, write_of, level_of, line_of, kinds_of, make_of}
+use Rattle.commands.specs.Leaves.{number_at, offset_at, valued, ended, last_word, write_of, level_of, line_of, kinds_of, make_of, read_as}
 use Rattle.commands.proofs.Words.{value_none, value_next}
 use Rattle.commands.proofs.Last.{one_or_more, kinds_alone, kinds_all, kinds_some}
 
@@ -17,9 +17,9 @@ module _ (l : List ℕ) (at : ℕ) where
   unfolding write_of
   write_none h = value_none is_offset hex l at _ h
 
-  pub line_none : None ≡ number_at l at → line_of (words (drop at l)) ≡ None
+  pub line_none : None ≡ number_at l at → Unreadable ≡ read_as (line_of (words (drop at l)))
   unfolding line_of
-  line_none h = value_none is_number decimal l at _ h
+  line_none h = sym (ap read_as (value_none is_number decimal l at _ h))
 
   pub make_none : (long : ℕ) → None ≡ number_at l at → make_of long (words (drop at l)) ≡ None
   unfolding make_of
@@ -43,11 +43,11 @@ module _ (l : List ℕ) (at : ℕ) {w : Word} where
   unfolding line_of level_of is_byte
   line_next h = value_next is_number decimal l at h (λ s ws. option_map (Line s) (level_of ws)) refl
 
-  pub line_gone : Some w ≡ number_at l at → None ≡ level_of (words (drop (w.end + 1) l)) → None ≡ line_of (words (drop at l))
-  line_gone h e = ap (option_map (Line w.value)) e ∙ sym (line_next h)
+  pub line_gone : Some w ≡ number_at l at → None ≡ level_of (words (drop (w.end + 1) l)) → Unreadable ≡ read_as (line_of (words (drop at l)))
+  line_gone h e = ap (λ o. read_as (option_map (Line w.value) o)) e ∙ sym (ap read_as (line_next h))
 
-  pub line_some : {v : Bool} → Some w ≡ number_at l at → Some v ≡ level_of (words (drop (w.end + 1) l)) → Some (Line w.value v) ≡ line_of (words (drop at l))
-  line_some h e = ap (option_map (Line w.value)) e ∙ sym (line_next h)
+  pub line_some : {v : Bool} → Some w ≡ number_at l at → Some v ≡ level_of (words (drop (w.end + 1) l)) → Line w.value v ≡ read_as (line_of (words (drop at l)))
+  line_some h e = ap (λ o. read_as (option_map (Line w.value) o)) e ∙ sym (ap read_as (line_next h))
 
 -- after N, C and b: the kinds, up to the end of the line
 opening : ℕ → ℕ → ℕ → ℕ → Opening
@@ -95,8 +95,15 @@ module _ (l : List ℕ) (at : ℕ) {n : Word} (hn : Some n ≡ number_at l at) w
         kinds_last l (b.end + 1) n.value c.value b.value t h
         ∙ sym (bits_next ∙ value_next is_number decimal l (c.end + 1) hb (kinds_of (length l) n.value c.value) refl)
 
+    pub make_some : {b : Word} → Some b ≡ number_at l (c.end + 1) → is_kinds (drop (b.end + 1) l) ≡ true →
+        Some (record { sources = n.value; contexts = c.value; bits = b.value; kinds = b.end + 1 }) ≡ make_of (length l) (words (drop at l))
+    make_some hb h = make_kinds hb true (sym h)
+
+    pub make_no_kinds : {b : Word} → Some b ≡ number_at l (c.end + 1) → is_kinds (drop (b.end + 1) l) ≡ false → None ≡ make_of (length l) (words (drop at l))
+    make_no_kinds hb h = make_kinds hb false (sym h)
+
 pub ruleset write_steps = (write_none, write_gone, write_some)
 
 pub ruleset line_steps = (line_none, line_gone, line_some)
 
-pub ruleset make_steps = (make_none, make_no_contexts, make_no_bits, make_kinds)
+pub ruleset make_steps = (make_none, make_no_contexts, make_no_bits, make_no_kinds, make_some)

@@ -30,7 +30,7 @@ value_more form value b bs at h =
     ap (λ (w : List ℕ). cond (form w) (found (value w) (at + length w)) None) (cond-false _ [] (b ∷ first_word bs) h)
     ∙ ap (λ (e : ℕ). cond (form (b ∷ first_word bs)) (found (value (b ∷ first_word bs)) e) None) (omega arith)
 
-digit_bounds : (b : ℕ) → So (is_digit b) → (48 ≤ b) × (b ≤ 57)
+pub digit_bounds : (b : ℕ) → So (is_digit b) → (48 ≤ b) × (b ≤ 57)
 digit_bounds b h = (leb-true 48 b (and_parts (leb 48 b) (leb b 57) h).0, leb-true b 57 (and_parts (leb 48 b) (leb b 57) h).1)
 
 is_digit_so : (b : ℕ) → IsAsciiDigit b → So (is_digit b)

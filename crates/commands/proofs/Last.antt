@@ -11,7 +11,7 @@ use Rattle.commands.proofs.Words.{words_after, words_first}
 
 -- the level: one byte, the last of the line
 
-level_one : (x : ℕ) → level_of (words (x ∷ [])) ≡ cond (eqb x 48) (Some false) (cond (eqb x 49) (Some true) None)
+pub level_one : (x : ℕ) → level_of (words (x ∷ [])) ≡ cond (eqb x 48) (Some false) (cond (eqb x 49) (Some true) None)
 unfolding words join_first level_of is_byte ended
 level_one x = ⊎_elim
     (λ t. subst (λ (y : ℕ). level_of (words (y ∷ [])) ≡ cond (eqb y 48) (Some false) (cond (eqb y 49) (Some true) None)) (sym (eqb-true x 32 t)) refl)

@@ -165,13 +165,17 @@ module _ (l : List ℕ) where
 
   -- .. and each of these, with what its form asks for
   module _ {x : ℕ} (e : Some x ≡ letter_of l) where
-    pub line_told : x ≡ 76 → (k : Option Command) → k ≡ line_of after → read_as k ≡ command_of l
+    pub line_told : {k : Command} → x ≡ 76 → k ≡ read_as (line_of after) → k ≡ command_of l
     unfolding asked
-    line_told is k h = ap read_as h ∙ sym (of_line (length l) after) ∙ told 76 e is
+    line_told is h = h ∙ sym (of_line (length l) after) ∙ told 76 e is
 
-    pub write_told : x ≡ 87 → (k : Option Command) → k ≡ write_of after → read_as k ≡ command_of l
+    pub write_some : {off n : ℕ} → x ≡ 87 → Some (Write off n) ≡ write_of after → Write off n ≡ command_of l
     unfolding asked
-    write_told is k h = ap read_as h ∙ sym (of_write (length l) after) ∙ told 87 e is
+    write_some is h = ap read_as h ∙ sym (of_write (length l) after) ∙ told 87 e is
+
+    pub write_gone : x ≡ 87 → None ≡ write_of after → Unreadable ≡ command_of l
+    unfolding asked
+    write_gone is h = ap read_as h ∙ sym (of_write (length l) after) ∙ told 87 e is
 
     of_option : {A : Type 0} (y : ℕ) (k : A → Command) {o r : Option A} → x ≡ y → asked l (Some y) ≡ read_as (option_map k r) → o ≡ r →
         read_as (option_map k o) ≡ command_of l
@@ -210,4 +214,4 @@ module _ (l : List ℕ) where
     make_none is h = of_option 80 Make is (of_make (length l) after) h
 
 pub ruleset told_steps =
-    (none_told, other_told, line_told, write_told, advance_some, advance_none, read_some, read_none, notify_some, notify_none, make_some, make_none)
+    (none_told, other_told, line_told, write_some, write_gone, advance_some, advance_none, read_some, read_none, notify_some, notify_none, make_some, make_none)

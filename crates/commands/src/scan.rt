@@ -54,24 +54,27 @@ fn ends_with(line: &[u8], at: usize, value: u32) -> Option<Word>
     }
 }
 
-// The rest of a number, whose digits before it are worth `first`. The end is counted beside: `enumerate` has no place for the end of the
-// line.
+// The rest of a number, whose digits before it are worth `first`. Summed in 64 bits, so that nothing wraps. The end is counted beside:
+// `enumerate` has no place for the end of the line.
 #[tactic(auto, using(crate::proofs::Digits::number_steps))]
 fn number_rest(line: &[u8], from: usize, first: u32) -> Option<Word>
     requires { from ≤ length line.now }
     ensures value { result ≡ number_rest first (drop from line.now) from }
     ensures within { IfSome result (λ w. w.end ≤ length line.now) }
 {
-    let mut value = first;
+    let mut value = u64::from(first);
     let mut end = from;
     for b in &line[from..] {
         if !b.is_ascii_digit() {
             break;
         }
-        value = value.checked_mul(10)?.checked_add(u32::from(*b - b'0'))?;
+        value = value * 10 + u64::from(*b - b'0');
+        if value > u64::from(u32::MAX) {
+            return None;
+        }
         end += 1;
     }
-    ends_with(line, end, value)
+    ends_with(line, end, value as u32)
 }
 
 // The number at a place: no needless leading zero, at most 4294967295. By hand: `FromStr` takes a sign and needless zeros.
