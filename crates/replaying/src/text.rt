@@ -18,7 +18,7 @@ fn put_text(text: &[u8], output: &mut [u8], at: usize) -> usize
     end
 }
 
-// How many digits a number has. One digit is common, and `checked_ilog10` takes twice the instructions for it.
+// How many digits a number has. Of 0 `ilog10` knows none.
 #[tactic(auto, using(crate::proofs::Print::width_one, crate::proofs::Print::width_more))]
 fn width(v: u64) -> usize
     ensures { result ≡ length (digits v) }
