@@ -17,9 +17,12 @@ module _ (l : List ℕ) (at : ℕ) where
   unfolding write_of
   write_none h = value_none is_offset hex l at _ h
 
-  pub line_none : None ≡ number_at l at → Unreadable ≡ read_as (line_of (words (drop at l)))
+  pub line_none : None ≡ number_at l at → line_of (words (drop at l)) ≡ None
   unfolding line_of
-  line_none h = sym (ap read_as (value_none is_number decimal l at _ h))
+  line_none h = value_none is_number decimal l at _ h
+
+  pub line_none_read : None ≡ number_at l at → Unreadable ≡ read_as (line_of (words (drop at l)))
+  line_none_read h = sym (ap read_as (line_none h))
 
   pub make_none : (long : ℕ) → None ≡ number_at l at → make_of long (words (drop at l)) ≡ None
   unfolding make_of
@@ -43,11 +46,18 @@ module _ (l : List ℕ) (at : ℕ) {w : Word} where
   unfolding line_of level_of is_byte
   line_next h = value_next is_number decimal l at h (λ s ws. option_map (Line s) (level_of ws)) refl
 
-  pub line_gone : Some w ≡ number_at l at → None ≡ level_of (words (drop (w.end + 1) l)) → Unreadable ≡ read_as (line_of (words (drop at l)))
-  line_gone h e = ap (λ o. read_as (option_map (Line w.value) o)) e ∙ sym (ap read_as (line_next h))
+  pub line_gone : Some w ≡ number_at l at → None ≡ level_of (words (drop (w.end + 1) l)) → None ≡ line_of (words (drop at l))
+  line_gone h e = ap (option_map (Line w.value)) e ∙ sym (line_next h)
 
-  pub line_some : {v : Bool} → Some w ≡ number_at l at → Some v ≡ level_of (words (drop (w.end + 1) l)) → Line w.value v ≡ read_as (line_of (words (drop at l)))
-  line_some h e = ap (λ o. read_as (option_map (Line w.value) o)) e ∙ sym (ap read_as (line_next h))
+  pub line_some : {v : Bool} → Some w ≡ number_at l at → Some v ≡ level_of (words (drop (w.end + 1) l)) → Some (Line w.value v) ≡ line_of (words (drop at l))
+  line_some h e = ap (option_map (Line w.value)) e ∙ sym (line_next h)
+
+  -- .. as the command that is read
+  pub line_gone_read : Some w ≡ number_at l at → None ≡ level_of (words (drop (w.end + 1) l)) → Unreadable ≡ read_as (line_of (words (drop at l)))
+  line_gone_read h e = ap read_as (line_gone h e)
+
+  pub line_some_read : {v : Bool} → Some w ≡ number_at l at → Some v ≡ level_of (words (drop (w.end + 1) l)) → Line w.value v ≡ read_as (line_of (words (drop at l)))
+  line_some_read h e = ap read_as (line_some h e)
 
 -- after N, C and b: the kinds, up to the end of the line
 opening : ℕ → ℕ → ℕ → ℕ → Opening
@@ -104,6 +114,6 @@ module _ (l : List ℕ) (at : ℕ) {n : Word} (hn : Some n ≡ number_at l at) w
 
 pub ruleset write_steps = (write_none, write_gone, write_some)
 
-pub ruleset line_steps = (line_none, line_gone, line_some)
+pub ruleset line_steps = (line_none_read, line_gone_read, line_some_read)
 
 pub ruleset make_steps = (make_none, make_no_contexts, make_no_bits, make_no_kinds, make_some)

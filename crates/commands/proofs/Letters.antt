@@ -169,13 +169,15 @@ module _ (l : List ℕ) where
     unfolding asked
     line_told is h = h ∙ sym (of_line (length l) after) ∙ told 76 e is
 
-    pub write_some : {off n : ℕ} → x ≡ 87 → Some (Write off n) ≡ write_of after → Write off n ≡ command_of l
+    pub write_told : x ≡ 87 → (k : Option Command) → k ≡ write_of after → read_as k ≡ command_of l
     unfolding asked
-    write_some is h = ap read_as h ∙ sym (of_write (length l) after) ∙ told 87 e is
+    write_told is k h = ap read_as h ∙ sym (of_write (length l) after) ∙ told 87 e is
+
+    pub write_some : {off n : ℕ} → x ≡ 87 → Some (Write off n) ≡ write_of after → Write off n ≡ command_of l
+    write_some is h = write_told is _ h
 
     pub write_gone : x ≡ 87 → None ≡ write_of after → Unreadable ≡ command_of l
-    unfolding asked
-    write_gone is h = ap read_as h ∙ sym (of_write (length l) after) ∙ told 87 e is
+    write_gone is h = write_told is _ h
 
     of_option : {A : Type 0} (y : ℕ) (k : A → Command) {o r : Option A} → x ≡ y → asked l (Some y) ≡ read_as (option_map k r) → o ≡ r →
         read_as (option_map k o) ≡ command_of l
